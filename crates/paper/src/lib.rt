@@ -1,0 +1,36 @@
+// The names of document 01: its refusals by number and the two units of time.
+
+// Given when: under 6 bytes.
+pub const SHORT: u8 = 1;
+// Over 4,096 bytes, read or to be written.
+pub const TOO_LONG: u8 = 2;
+// An event that is not taken now.
+pub const UNEXPECTED: u8 = 3;
+// pduLength differs from the slice's length.
+pub const BAD_LENGTH: u8 = 4;
+// The body ends inside a field, or before one that is due.
+pub const TRUNCATED: u8 = 5;
+// An integer not in its only form.
+pub const NOT_SHORTEST: u8 = 6;
+// Frames over 64, contacts over 63.
+pub const BAD_COUNT: u8 = 7;
+// Version, ready flags or fieldsPresent not listed.
+pub const BAD_FIELD: u8 = 8;
+// contactFlags not in the state table.
+pub const BAD_FLAGS: u8 = 9;
+// Orientation, pressure; a value given to a writer.
+pub const BAD_RANGE: u8 = 10;
+// The first frame's offset is not 0.
+pub const BAD_OFFSET: u8 = 11;
+// Bytes after the last field.
+pub const TRAILING: u8 = 12;
+// The output is shorter than what this call writes.
+pub const NO_ROOM: u8 = 13;
+// A writer's record is not well formed.
+pub const BAD_RECORD: u8 = 14;
+
+// encodeTime (000, 2.2.3.3): milliseconds.
+pub struct Milliseconds(pub u32);
+
+// frameOffset (000, 2.2.3.3.1): microseconds.
+pub struct Microseconds(pub u64);

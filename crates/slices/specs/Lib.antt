@@ -1,0 +1,2 @@
+-- How calls write into lent outputs.
+pub mod Writing

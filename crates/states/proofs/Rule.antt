@@ -1,0 +1,44 @@
+-- The rule of the constant table: each of its 24 entries is what document 01's table says, by one test over the whole.
+-- Assumes nothing.
+use mathlib.Core.Path.{_≡_, refl, ap, _∙_, sym}
+use mathlib.Core.Bool.{Bool, true, false, cond}
+use mathlib.Core.List.{List, [], _∷_}
+use Prim.Native.Nat.{ℕ, _+_, _*_, _/_, _%_, _<_, _≤_}
+use native.Mathlib.Omega.{arith}
+use lib.Dec.{eqb, eqb→eq}
+use lib.ListN.{getD, length, List·getD-eq-default}
+use borrow.Author.Tests.{ne-eqb}
+use Rattle.states.specs.Table.{Row, table, unlisted, from, illegal, next, placeOf, out, hovering, engaged}
+use Rattle.states.proofs.Below.{below}
+
+-- the entries of `NEXT`
+abbrev pub entries : List ℕ
+entries =
+    1 ∷ 1 ∷ 3 ∷ 2 ∷ 2 ∷ 3 ∷ 3 ∷ 3 ∷ 2 ∷ 3 ∷ 3 ∷ 1 ∷ 3 ∷ 3 ∷ 0 ∷ 3 ∷ 3 ∷ 0 ∷ 3 ∷ 0 ∷ 3 ∷ 3 ∷ 0 ∷ 3 ∷ []
+
+-- the entry at k is that of row k / 3 and state k % 3
+entry : (k : ℕ) → k < 24 → getD entries k 0 ≡ from (k % 3) (getD table (k / 3) unlisted)
+unfolding from
+entry k h = eqb→eq _ _ (below 24 (λ k. eqb (getD entries k 0) (from (k % 3) (getD table (k / 3) unlisted))) tt k h)
+
+pub rule : (k s : ℕ) → k < 8 → s ≤ 2 → getD entries (3 * k + s) 0 ≡ from s (getD table k unlisted)
+rule k s hk hs =
+    let q : (3 * k + s) / 3 ≡ k = omega arith in
+    let r : (3 * k + s) % 3 ≡ s = omega arith in
+    entry (3 * k + s) (omega arith) ∙ rw (q, r)
+
+-- a number that is no state has no legal flags
+pub no-state : (s : ℕ) (r : Row) → 2 < s → from s r ≡ illegal
+unfolding from
+no-state s r h =
+    rw (ne-eqb s out (λ e. omega arith), ne-eqb s hovering (λ e. omega arith), ne-eqb s engaged (λ e. omega arith))
+
+-- flags that the table does not have lead nowhere
+either : (b : Bool) (x : ℕ) → cond b x x ≡ x
+either true x = refl
+either false x = refl
+
+pub no-row : (k s : ℕ) → 8 ≤ k → from s (getD table k unlisted) ≡ illegal
+unfolding from
+no-row k s h =
+    rw (List·getD-eq-default table unlisted {n = k} h, either (eqb s engaged) illegal, either (eqb s hovering) illegal, either (eqb s out) illegal)

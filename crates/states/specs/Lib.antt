@@ -1,0 +1,2 @@
+-- The states of a contact.
+pub mod Table

@@ -1,0 +1,1 @@
+// The combinators of which message formats are made: the definitions stand in specs/, their laws in proofs/.

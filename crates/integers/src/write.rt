@@ -1,0 +1,118 @@
+// One writer for all five kinds, by count bits and sign bits, and the five.
+use crate::common::fewest_of;
+use crate::common::power;
+use crate::common::widened;
+use slices::Written;
+ghost use mathlib.Core.Path.{_≡_};
+ghost use Prim.Native.Nat.{_+_, _*_, _/_, _^_, _<_, _≤_};
+ghost use mathlib.Core.List.{_++_};
+ghost use lib.ListN.{length, take, drop};
+ghost use Rattle.digits.specs.Digits.{digits};
+ghost use Rattle.slices.specs.Writing.{laid, Writes};
+ghost use Rattle.integers.specs.Integer.{formed, draft, limit, signs};
+ghost use Rattle.integers.specs.Answer.{minus, size};
+
+// The c lowest digits of m behind the first byte of out; what is above them is handed back.
+fn fill(out: &mut [u8], m: u64, c: usize) -> u64
+    requires { ⌜ c < length (now out) ⌝ }
+    ensures { λ r. ⌜ (r ≡ m / 256 ^ c) × (now (out .exit) ≡ take 1 (now (out .entry)) ++ (digits c m ++ drop (c + 1) (now (out .entry)))) ⌝ }
+{
+    let mut v = m;
+    let mut j: usize = 0;
+    while j < c {
+        out[c - j] = (v % 256) as u8;
+        v = v / 256;
+        j += 1;
+    }
+    v
+}
+
+// Sign s and magnitude m with c further bytes, at the front of an output that has room for them.
+fn put(out: &mut [u8], tops: u8, signs: u8, c: usize, s: u8, m: u64)
+    requires { ⌜ (s < signs) × (m < tops * 256 ^ c) × ((c + 1) * (signs * tops) ≤ 256) × (c < length (now out)) ⌝ }
+    ensures { λ _. ⌜ now (out .exit) ≡ laid (now (out .entry)) (formed tops signs c s m) ⌝ }
+{
+    let top = fill(out, m, c);
+    out[0] = ((c as u8) * signs + s) * tops + (top as u8);
+}
+
+// Sign s and magnitude m, in the only form of k count bits and g sign bits. Nothing is stored before
+// both checks have passed, so that a refusal leaves the output as it was.
+fn write(out: &mut [u8], k: u8, g: u8, greatest: u64, s: u8, m: u64) -> Written
+    requires { ⌜ (0 < k) × (k ≤ 3) × (g ≤ 1) × (greatest + 1 ≡ limit k g) × (s < signs g) ⌝ }
+    ensures { λ r. ⌜ Writes (draft k g s m) r (now (out .entry)) (now (out .exit)) ⌝ }
+{
+    if greatest < m {
+        return Written {
+            refusal: paper::BAD_RANGE,
+            bytes: 0,
+        };
+    }
+    let tops = power(8 - (k + g));
+    let c = fewest_of(widened(tops), m);
+    if out.len() <= c {
+        return Written {
+            refusal: paper::NO_ROOM,
+            bytes: 0,
+        };
+    }
+    put(out, tops, power(g), c, s, m);
+    Written {
+        refusal: 0,
+        bytes: c + 1,
+    }
+}
+
+// The sign and the magnitude of a signed value.
+struct Parts {
+    minus: u8,
+    size: u64,
+}
+
+// The least i32 has no opposite in i32: it is negated as an i64.
+fn split(z: i32) -> Parts
+    ensures { λ r. ⌜ (r .minus ≡ minus z) × (r .size ≡ size z) ⌝ }
+{
+    if z < 0 {
+        return Parts {
+            minus: 1,
+            size: (0 - z as i64) as u64,
+        };
+    }
+    Parts {
+        minus: 0,
+        size: z as u64,
+    }
+}
+
+pub fn write_u2(out: &mut [u8], value: u16) -> Written
+    ensures { λ r. ⌜ Writes (draft 1 0 0 value) r (now (out .entry)) (now (out .exit)) ⌝ }
+{
+    write(out, 1, 0, 0x7FFF, 0, value as u64)
+}
+
+pub fn write_s2(out: &mut [u8], value: i16) -> Written
+    ensures { λ r. ⌜ Writes (draft 1 1 (minus value) (size value)) r (now (out .entry)) (now (out .exit)) ⌝ }
+{
+    let p = split(value as i32);
+    write(out, 1, 1, 0x3FFF, p.minus, p.size)
+}
+
+pub fn write_u4(out: &mut [u8], value: u32) -> Written
+    ensures { λ r. ⌜ Writes (draft 2 0 0 value) r (now (out .entry)) (now (out .exit)) ⌝ }
+{
+    write(out, 2, 0, 0x3FFF_FFFF, 0, value as u64)
+}
+
+pub fn write_s4(out: &mut [u8], value: i32) -> Written
+    ensures { λ r. ⌜ Writes (draft 2 1 (minus value) (size value)) r (now (out .entry)) (now (out .exit)) ⌝ }
+{
+    let p = split(value);
+    write(out, 2, 1, 0x1FFF_FFFF, p.minus, p.size)
+}
+
+pub fn write_u8(out: &mut [u8], value: u64) -> Written
+    ensures { λ r. ⌜ Writes (draft 3 0 0 value) r (now (out .entry)) (now (out .exit)) ⌝ }
+{
+    write(out, 3, 0, 0x1FFF_FFFF_FFFF_FFFF, 0, value)
+}

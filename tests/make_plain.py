@@ -1,0 +1,253 @@
+"""Writes OUTDIR/stdin and OUTDIR/stdout for the program 'plain'."""
+
+import random
+
+import corpus
+from corpus import contact, frame, message, touch
+from reference import entries, house, integers, programs
+from reference.integers import S2, S4, U2, U4, U8
+
+SEED = 20260103
+TOUCH = 3
+
+FULL = contact(9, 0x19, -40, 3000, left=-5, top=-70, right=5, bottom=70, orientation=300, pressure=40000)
+SMALL = contact(1, 0x0A, 0, 1)
+
+
+# Good messages
+
+
+def good_shapes():
+    yield touch(0, [])
+    yield touch(0x3FFFFFFF, [])
+    yield touch(0, [frame()])
+    yield touch(5, [frame(), frame(offset=1), frame(offset=0x1FFFFFFFFFFFFFFF)])
+    # 11 is not the plain reading's business.
+    yield touch(5, [frame(SMALL, offset=77)])
+    for flags in house.FLAGS:
+        yield touch(1, [frame(contact(3, flags, 10, 20))])
+    for present in range(8):
+        yield touch(2, [frame(FULL_WITH[present], offset=31), frame(SMALL, offset=32)])
+    for contact_id in (0, 127, 128, 255):
+        yield touch(3, [frame(contact(contact_id, 0x19))])
+    # The same id twice and illegal flags are faults of the states, and so no refusals.
+    yield touch(4, [frame(contact(7, 0x1A), contact(7, 0x04), contact(7, 0x04))])
+    # Rectangle sides may come in any order.
+    yield touch(4, [frame(contact(7, 0x19, left=9, top=8, right=-9, bottom=-8))])
+
+
+def reduced(present):
+    """FULL with only the optional fields that fieldsPresent names."""
+    values = FULL._asdict() | {"fields_present": present}
+    for name, bit in [(side, 1) for side in house.SIDES] + [("orientation", 2), ("pressure", 4)]:
+        if not present & bit:
+            values[name] = 0
+    return house.Contact(**values)
+
+
+FULL_WITH = [reduced(present) for present in range(8)]
+
+
+def extremes():
+    """Every integer field at both ends and at each length's first and last value."""
+    fields = corpus.touch_fields(1, [frame(FULL)])
+    for at, field in enumerate(fields):
+        if field.name in ("encodeTime", "frameOffset", "x", "y", *house.SIDES):
+            for value in ends(field.kind):
+                yield message(TOUCH, corpus.with_field(fields, at, integers.encode(field.kind, value)))
+
+
+def ends(kind):
+    values = {0, 1}
+    for length in range(1, kind.longest + 1):
+        values |= {kind.largest(length), min(kind.largest(length) + 1, kind.highest)}
+    if kind.signed:
+        values |= {-value for value in values}
+    return sorted(values)
+
+
+# Both sides of every limit
+
+
+def changed(name, value, contacts=(FULL,)):
+    """A message of one frame with one integer of its first contact, or its counts, changed."""
+    fields = corpus.touch_fields(1, [frame(*contacts)])
+    at = [field.name for field in fields].index(name)
+    return message(TOUCH, corpus.with_field(fields, at, integers.encode(fields[at].kind, value)))
+
+
+def limits():
+    for name, values in (
+        ("orientation", (0, 359, 360, 512, U4.highest)),
+        ("pressure", (0, 65000, 65001, 65535, 65536, U4.highest)),
+        ("fieldsPresent", (7, 8, 15, 16, U2.highest)),
+        ("frameCount", (0, 1, 2, 64, 65, 127, 128, U2.highest)),
+        ("contactCount", (0, 1, 2, 63, 64, 127, 128, U2.highest)),
+    ):
+        for value in values:
+            yield changed(name, value)
+    for flags in (*range(64), 0x59, 0x119, 0x4019, 0x400019, U4.highest):
+        yield changed("contactFlags", flags)
+    for count in (1, 63, 64):
+        yield touch(0, [frame(*(contact(each, 0x19) for each in range(count)))])
+    for count in (63, 64, 65):
+        yield touch(0, [frame()] * count)
+        yield touch(0, [frame(SMALL, offset=3)] * count)
+
+
+# Long messages
+
+
+def long_messages():
+    for length in (4094, 4095, 4096, 4097, 4098):
+        yield touch(0, corpus.stretched(most_records(), length))
+    for length in (4096, 4097):
+        yield touch(1 << 20, corpus.stretched(wide_frames(), length, 1 << 20))
+        yield message(TOUCH, bytes(length - 6))
+        # 2 comes before 3 and 4.
+        yield message(9, bytes(length - 6))
+        yield message(TOUCH, bytes(length - 6), length + 1)
+    yield message(TOUCH, bytes(8000))
+    yield bytes(entries.LONGEST_ENTRY)
+
+
+def most_records():
+    """64 frames and 790 contacts of five bytes each: nearly the most records that fit."""
+    contacts = [contact(each, 0x0A, each % 32, 31 - each % 32) for each in range(63)]
+    frames = [frame(*contacts[:40]) for _ in range(15)] + [frame(*contacts[:7]) for _ in range(15)]
+    frames += [frame(*contacts[:63])] + [frame(contacts[0]) for _ in range(22)]
+    return frames + [frame() for _ in range(64 - len(frames))]
+
+
+def wide_frames():
+    """Contacts of the most bytes."""
+    wide = contact(
+        255, 0x1A, -S4.highest, S4.highest,
+        left=-S2.highest, top=S2.highest, right=-64, bottom=64, orientation=359, pressure=65000,
+    )
+    return [frame(*[wide] * 10, offset=U8.highest)] + [frame(*[wide] * 8) for _ in range(19)] + [frame()] * 10
+
+
+# Damage
+
+
+def headers():
+    good = touch(1, [frame(SMALL)])
+    body = good[6:]
+    for length in range(6):
+        yield good[:length]
+        yield b"\xff" * length
+    for event in (0, 1, 2, 4, 5, 6, 7, 0x0103, 0x0300, 0x8003, 0xFFFF):
+        yield message(event, body)
+        # 3 comes before 4.
+        yield message(event, body, len(good) + 1)
+    yield bytes.fromhex("04 00 06 00 00 00")
+    yield bytes.fromhex("03 00 06 00 00 00")
+    right = len(good)
+    for length in (0, 5, 6, right - 1, right + 1, right << 8, right | 1 << 16, right | 1 << 31, 0xFFFFFFFF):
+        yield message(TOUCH, body, length)
+    # 4 comes before any fault of the body.
+    yield message(TOUCH, body[:-1], right)
+    yield message(TOUCH, body + b"\0", right)
+
+
+def cuts():
+    for frames in ([frame(FULL, offset=200000), frame(SMALL)], [frame(), frame(contact(2, 0x04, 1 << 14, -(1 << 22)))]):
+        for body in corpus.cut_bodies(corpus.touch_fields(300, frames)):
+            yield message(TOUCH, body)
+
+
+def padded():
+    fields = corpus.touch_fields(0, [frame(FULL), frame(SMALL, offset=9)])
+    for body in corpus.other_form_bodies(fields):
+        yield message(TOUCH, body)
+    # An integer that is padded and cut is truncated.
+    for body in (b"\x40", b"\xc0\x00\x00", b"\x00\x80", b"\x00\x01\x80", b"\x00\x01\x00\xe0" + bytes(6)):
+        yield message(TOUCH, body)
+
+
+def added():
+    for frames in ([], [frame()], [frame(FULL)], [frame(SMALL), frame(SMALL)]):
+        body = touch(7, frames)[6:]
+        for more in (b"\0", b"\xff", bytes(5), bytes(300)):
+            yield message(TOUCH, body + more)
+
+
+def flips():
+    good = touch(40, [frame(contact(1, 0x19, 100, -50, orientation=90), offset=5), frame()])
+    for bit in range(8 * len(good)):
+        yield corpus.flipped(good, bit)
+    body = good[6:]
+    for bit in range(8 * len(body)):
+        longer = corpus.flipped(body, bit)
+        yield message(TOUCH, longer + b"\x00\x00")
+
+
+# Bodies with two faults, and the number of the one that answers: the first from the left.
+TWO_FAULTS = (
+    ("00 81 00", 7, "256 frames in their only form, none of them there"),
+    ("00 80 41", 6, "65 frames, padded"),
+    ("00 41", 7, "65 frames, none of them there"),
+    ("00 01 40", 7, "64 contacts, and no offset"),
+    ("00 01 80 40", 6, "64 contacts, padded"),
+    ("00 01 01 00 05 08", 8, "fieldsPresent 8, then cut"),
+    ("00 01 01 00 05 80 08", 6, "fieldsPresent 8, padded"),
+    ("00 01 01 00 05 00 00 00 1B 00", 9, "flags not in the table, then a byte added"),
+    ("00 01 01 00 05 00 20 00 1B", 6, "x minus zero, then flags not in the table"),
+    ("00 01 01 00 05 00 00 20 1B", 6, "y minus zero, then flags not in the table"),
+    ("00 01 01 00 05 00 00 00 40 1B", 6, "flags not in the table, padded"),
+    ("00 01 01 00 05 00 00 00 80 1B", 5, "flags not in the table, padded, cut"),
+    ("00 01 01 00 05 02 00 00 1B 41 68", 9, "flags not in the table, then orientation 360"),
+    ("00 01 01 00 05 06 00 00 19 41 68", 10, "orientation 360, then cut"),
+    ("00 01 01 00 05 06 00 00 19 80 01 68 00", 6, "orientation 360, padded"),
+    ("00 01 01 00 05 06 00 00 19 41 67 80 FD E9 00", 10, "pressure 65001, then a byte added"),
+    ("00 01 01 00 05 06 00 00 19 41 67 C0 00 FD", 5, "pressure padded, cut"),
+    ("00 01 01 00 05 01 00 00 19 40 00 00 00", 6, "left minus zero"),
+    ("00 01 01 00 05 01 00 00 19 00 00 00 40", 6, "bottom minus zero"),
+    ("00 01 01 00 05 01 00 00 19 00 00 00", 5, "bottom missing"),
+    ("00 02 00 00", 5, "second frame missing"),
+    ("00 02 00 00 40 00", 7, "second frame of 64 contacts, cut"),
+    ("00 00 00", 12, "a byte after no frames"),
+    ("20 00", 0, "no fault: encodeTime 32"),
+    ("40 20 00", 6, "encodeTime 32, padded"),
+)
+
+
+def two_faults():
+    for text, _, _ in TWO_FAULTS:
+        yield message(TOUCH, bytes.fromhex(text))
+
+
+def random_ones(rng):
+    for _ in range(120):
+        yield touch(corpus.random_value(rng, U4), corpus.random_frames(rng))
+    for _ in range(250):
+        yield corpus.damaged(rng, touch(corpus.random_value(rng, U4), corpus.random_frames(rng, 3, 3)))
+    for _ in range(20):
+        yield rng.randbytes(rng.randint(0, 40))
+
+
+def all_messages():
+    rng = random.Random(SEED)
+    for group in (good_shapes, extremes, limits, long_messages, headers, cuts, padded, added, flips, two_faults):
+        yield from group()
+    yield from random_ones(rng)
+
+
+def main():
+    directory = corpus.output_directory()
+    payloads = list(all_messages())
+    # The last entry is cut inside its two length bytes.
+    stdin = corpus.joined(payloads, b"\x00")
+    stdout = programs.plain(stdin)
+    corpus.write_files(directory, {"stdin": stdin, "stdout": stdout})
+    corpus.report_refusals(stdout)
+    accepted = [line.split(" ") for line in stdout.splitlines() if line.endswith((" same", " differs"))]
+    lengths = [len(each) for each in payloads]
+    corpus.report(f"  written back the same {stdout.count(' same')}, differing {stdout.count(' differs')}")
+    corpus.report(f"  most records of one message {max(int(words[3]) for words in accepted)}")
+    corpus.report(f"  messages of 4096 bytes {lengths.count(4096)}, of 4097 {lengths.count(4097)}")
+
+
+if __name__ == "__main__":
+    main()

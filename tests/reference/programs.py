@@ -1,0 +1,174 @@
+"""What each test program prints for a given standard input."""
+
+from . import entries, house, integers, messages, receiver
+from .output import written
+from .refusals import BAD_RECORD, NONE, Refused
+
+LENT_TO_READERS = 48 * 1024
+LENT_TO_TOUCH_WRITER = messages.LONGEST_MESSAGE
+LONGEST_LENT_TO_VECTORS = 32
+FILLING = 0xEE
+
+
+def lines(data, line):
+    """One line per entry, numbered from 1; 'cut' for an incomplete last one."""
+    payloads, cut = entries.split(data)
+    texts = [f"{number} {line(payload)}\n" for number, payload in enumerate(payloads, 1)]
+    if cut:
+        texts.append(f"{len(payloads) + 1} cut\n")
+    return "".join(texts)
+
+
+# bench and records: one fresh receiver takes all entries
+
+
+def received(data):
+    """Each complete entry's answer and the bytes of its records."""
+    payloads, _ = entries.split(data)
+    keeper = receiver.Receiver()
+    for payload in payloads:
+        output = bytearray(LENT_TO_READERS)
+        keeper, answer = receiver.receive(keeper, payload, output)
+        yield answer, bytes(output[: answer.records * house.LENGTH])
+
+
+def bench(data):
+    return bench_and_records(data)[0]
+
+
+def records(data):
+    return bench_and_records(data)[1]
+
+
+def bench_and_records(data):
+    """What 'bench' prints and what 'records' writes."""
+    results = list(received(data))
+    answers = iter(results)
+
+    def line(_payload):
+        answer, _ = next(answers)
+        return f"{answer.refusal} {answer.injected} {answer.ignored} {answer.cancelled} {answer.records}"
+
+    return lines(data, line), b"".join(written_records for _, written_records in results)
+
+
+# plain
+
+
+def plain(data):
+    return lines(data, plain_line)
+
+
+def plain_line(message):
+    output = bytearray(LENT_TO_READERS)
+    answer = messages.plain(message, output)
+    text = f"{answer.refusal} {answer.encode_time} {answer.records}"
+    if answer.refusal != NONE:
+        return text
+    again = bytearray(messages.LONGEST_MESSAGE)
+    back = messages.write_touch(again, answer.encode_time, bytes(output[: answer.records * house.LENGTH]))
+    same = back.refusal == NONE and bytes(again[: back.bytes]) == message
+    return text + (" same" if same else " differs")
+
+
+# writer
+
+
+def writer(data):
+    return lines(data, writer_line)
+
+
+def writer_line(payload):
+    if len(payload) < 4:
+        return "short"
+    output = bytearray(LENT_TO_TOUCH_WRITER)
+    answer = messages.write_touch(output, int.from_bytes(payload[:4], "big"), payload[4:])
+    text = f"{answer.refusal} {answer.bytes}"
+    if answer.refusal != NONE:
+        return text
+    return f"{text} {output[: answer.bytes].hex()}"
+
+
+# vectors
+
+
+def vectors(data):
+    return lines(data, vector_line)
+
+
+def vector_line(payload):
+    run = VECTOR_LINES.get(payload[:1])
+    return (run and run(payload[1:])) or "unknown"
+
+
+def read_line(rest):
+    """Kind, then the rest of a message from the integer's first byte."""
+    if len(rest) < 1 or rest[0] >= len(integers.KINDS):
+        return None
+    try:
+        value, length = integers.read(integers.KINDS[rest[0]], rest[1:])
+    except Refused as refused:
+        return f"refused {refused.number}"
+    return f"{value} {length}"
+
+
+def write_line(rest):
+    """Kind, sign, eight bytes of magnitude, the length of the output lent."""
+    if len(rest) != 11 or rest[0] >= len(integers.KINDS):
+        return None
+    kind = integers.KINDS[rest[0]]
+    return lent_line(rest[10], lambda out: integers.write(kind, out, signed(rest[1:10])))
+
+
+def head_line(rest):
+    """Count, eight bytes of offset, the length of the output lent."""
+    if len(rest) != 10:
+        return None
+    head = house.Head(rest[0], int.from_bytes(rest[1:9], "big"))
+    return lent_line(rest[9], lambda out: written(out, lambda: house.pack_head(head)))
+
+
+def contact_line(rest):
+    """A contact's fields in the record's order, the length of the output lent."""
+    if len(rest) != 31:
+        return None
+    x, y = signed(rest[4:9]), signed(rest[9:14])
+    sides = [signed(rest[at : at + 3]) for at in range(14, 26, 3)]
+    orientation = int.from_bytes(rest[26:28], "big")
+    pressure = int.from_bytes(rest[28:30], "big")
+    contact = house.Contact(*rest[:4], x, y, *sides, orientation, pressure)
+    return lent_line(rest[30], lambda out: written(out, lambda: house.pack_contact(contact)))
+
+
+def record_line(rest):
+    """A slice of records, of which the first is read."""
+    if len(rest) < house.LENGTH:
+        return f"refused {BAD_RECORD}"
+    record = rest[: house.LENGTH]
+    word = "head" if house.kind_of(record) == house.HEAD_KIND else "contact"
+    fields = " ".join(str(value) for value in house.unpack(record))
+    return f"{word} {fields} {'well' if house.well_formed(record) else 'ill'}"
+
+
+def signed(data):
+    """One byte of sign (1 for minus), then the magnitude."""
+    magnitude = int.from_bytes(data[1:], "big")
+    return -magnitude if data[0] == 1 else magnitude
+
+
+def lent_line(length, write):
+    """The answer and the whole lent output, to show that nothing else was touched."""
+    if length > LONGEST_LENT_TO_VECTORS:
+        return None
+    out = bytearray([FILLING]) * length
+    answer = write(out)
+    return f"{answer.refusal} {answer.bytes} {out.hex() or '-'}"
+
+
+VECTOR_LINES = {
+    b"r": read_line,
+    b"w": write_line,
+    b"h": head_line,
+    b"c": contact_line,
+    b"d": record_line,
+}

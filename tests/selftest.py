@@ -1,0 +1,363 @@
+"""Checks the reference against every example of [MS-RDPEI] 2.2.2 and of the rules paper."""
+
+import random
+import sys
+
+import corpus
+import make_plain
+from corpus import contact, frame
+from reference import entries, house, integers, messages, programs, receiver
+from reference.integers import S2, S4, U2, U4, U8
+from reference.refusals import Refused
+
+SEED = 20260101
+
+differences = []
+
+
+def same(what, have, want):
+    if have != want:
+        differences.append(f"{what}: have {have!r}, want {want!r}")
+
+
+def refusal_of(call):
+    try:
+        call()
+    except Refused as refused:
+        return refused.number
+    return 0
+
+
+# The integers ([MS-RDPEI] 2.2.2.1 to 2.2.2.5 and the proved set).
+
+EXAMPLES = (
+    (U2, 0x1A1B, "9A 1B"),
+    (S2, -0x1A1B, "DA 1B"),
+    (S2, -2, "42"),
+    (U4, 0x1A1B1C, "9A 1B 1C"),
+    (S4, -0x1A1B1C, "BA 1B 1C"),
+    (S4, -2, "22"),
+    (U8, 0x1A1B1C1D1E1F2A, "DA 1B 1C 1D 1E 1F 2A"),
+    (U2, 0x7F, "7F"),
+    (U2, 0x80, "80 80"),
+    (S2, -64, "C0 40"),
+    (S4, 32, "40 20"),
+    (U8, 32, "20 20"),
+)
+
+RANGES = (
+    (U2, 0, 0x7FFF),
+    (S2, -0x3FFF, 0x3FFF),
+    (U4, 0, 0x3FFFFFFF),
+    (S4, -0x1FFFFFFF, 0x1FFFFFFF),
+    (U8, 0, 0x1FFFFFFFFFFFFFFF),
+)
+
+
+def check_integers():
+    for kind, value, text in EXAMPLES:
+        data = bytes.fromhex(text)
+        same(f"{kind.name} {value} written", integers.encode(kind, value), data)
+        same(f"{kind.name} {text} read", integers.read(kind, data + b"\xff"), (value, len(data)))
+        same(f"{kind.name} {text} cut", refusal_of(lambda: integers.read(kind, data[:-1])), 5)
+    same("S2 minus zero", refusal_of(lambda: integers.read(S2, b"\x40")), 6)
+    for kind, lowest, highest in RANGES:
+        same(f"{kind.name} range", (kind.lowest, kind.highest), (lowest, highest))
+        for value in (lowest - 1, highest + 1):
+            same(f"{kind.name} {value}", refusal_of(lambda: integers.encode(kind, value)), 10)
+        for value in (lowest, highest):
+            data = integers.encode(kind, value)
+            same(f"{kind.name} {value}", integers.read(kind, data), (value, len(data)))
+
+
+def check_integer_writers():
+    out = bytearray(b"\xee" * 3)
+    same("room", integers.write(U2, out, 0x1A1B), (0, 2))
+    same("nothing past", bytes(out), bytes.fromhex("9A 1B EE"))
+    same("no room", integers.write(U8, out, 1 << 40), (13, 0))
+    same("range before room", integers.write(U2, bytearray(), 0x8000), (10, 0))
+    same("untouched", bytes(out), bytes.fromhex("9A 1B EE"))
+
+
+def check_every_short_reading():
+    """Over all one- and two-byte integers: a reading is accepted exactly if writing gives it back."""
+    for kind in (U2, S2):
+        for number in range(0x10000):
+            data = number.to_bytes(2, "big")
+            value = integers.meaning(kind, data if number >= 0x8000 else data[:1])
+            only = integers.encode(kind, value)
+            accepted = data.startswith(only) and len(only) == 1 + (number >> 15)
+            same(f"{kind.name} {data.hex()}", refusal_of(lambda: integers.read(kind, data)), 0 if accepted else 6)
+
+
+# The bench example.
+
+BENCH_ENTRIES = (
+    "02 00 10 00 00 00 00 00 00 00 01 00 01 00 0A 00",
+    "03 00 11 00 00 00 00 01 01 00 01 00 40 64 40 32 19",
+    "03 00 11 00 00 00 00 01 01 00 01 00 40 64 40 32 04",
+    "03 00 11 00 00 00 00 01 01 00 01 00 40 64 40 32 1A",
+)
+BENCH_OUTPUT = "1 0 0 0 0 0\n2 0 1 0 0 2\n3 0 1 0 0 2\n4 0 0 0 1 0\n"
+
+
+def check_bench_example():
+    data = entries.join(bytes.fromhex(text) for text in BENCH_ENTRIES)
+    same("bench example", programs.bench(data), BENCH_OUTPUT)
+    same("bench cut", programs.bench(data[:-1]), BENCH_OUTPUT[: -len("4 0 0 0 1 0\n")] + "4 cut\n")
+    same("bench half length", programs.bench(data + b"\0"), BENCH_OUTPUT + "5 cut\n")
+    same("bench empty", programs.bench(b""), "")
+    kept = [house.unpack(record) for record in chunks(programs.records(data))]
+    down, up = contact(1, 0x19, 100, 50), contact(1, 0x04, 100, 50)
+    same("bench records", kept, [house.Head(1, 0), down, house.Head(1, 0), up])
+
+
+def chunks(data):
+    return [data[at : at + house.LENGTH] for at in range(0, len(data), house.LENGTH)]
+
+
+# Both sides of the limits.
+
+
+def plain_refusal(message):
+    return messages.plain(message, bytearray(programs.LENT_TO_READERS)).refusal
+
+
+def over(fields, name, value):
+    """A touch message whose named integer has another value, inside the integer's range."""
+    at = [field.name for field in fields].index(name)
+    return corpus.message(3, corpus.with_field(fields, at, integers.encode(fields[at].kind, value)))
+
+
+def check_limits():
+    full = contact(1, 0x19, left=-1, top=-1, right=1, bottom=1, orientation=0, pressure=0)
+    fields = corpus.touch_fields(0, [frame(full)])
+    for name, good, bad, number in (
+        ("orientation", 359, 360, 10),
+        ("pressure", 65000, 65001, 10),
+        ("fieldsPresent", 7, 8, 8),
+        ("contactFlags", 0x1A, 0x1B, 9),
+    ):
+        same(f"{name} {good}", plain_refusal(over(fields, name, good)), 0)
+        same(f"{name} {bad}", plain_refusal(over(fields, name, bad)), number)
+    for count, number in ((63, 0), (64, 7)):
+        many = frame(*(contact(each, 0x19) for each in range(count)))
+        same(f"{count} contacts", plain_refusal(corpus.touch(0, [many])), number)
+    for count, number in ((64, 0), (65, 7)):
+        same(f"{count} frames", plain_refusal(corpus.touch(0, [frame()] * count)), number)
+    for length, number in ((4096, 0), (4097, 2)):
+        long = corpus.touch(0, corpus.stretched(long_frames(), length))
+        same(f"{length} bytes", (len(long), plain_refusal(long)), (length, number))
+
+
+def check_first_fault_answers():
+    for text, number, why in make_plain.TWO_FAULTS:
+        same(why, plain_refusal(corpus.message(3, bytes.fromhex(text))), number)
+
+
+def long_frames():
+    """64 frames just under 4,096 bytes in all."""
+    return [frame(*(contact(each, 0x0A, 1, 1) for each in range(11)))] * 64
+
+
+def check_lift_elsewhere():
+    """A lift at 101, 50 cancels and writes one record of kind 2."""
+    keeper, _ = receiver.receive(receiver.Receiver(), bytes.fromhex(BENCH_ENTRIES[0]), bytearray())
+    output = bytearray(100)
+    keeper, answer = receiver.receive(keeper, bytes.fromhex(BENCH_ENTRIES[1]), output)
+    lift = corpus.touch(0, [frame(contact(1, 0x04, 101, 50))])
+    same("no room", receiver.receive(keeper, lift, bytearray(20)), (keeper, receiver.Answer(13)))
+    after, answer = receiver.receive(keeper, lift, output)
+    same("lift answer", answer, receiver.Answer(cancelled=1, records=1))
+    same("lift record", house.unpack(output[:21]), house.Contact(2, 0x24, 0, 1, 100, 50))
+    same("lift leaves", (after.running, after.active), (False, {}))
+
+
+# The receiver's rules, message by message: what is sent, and the answer
+# (refusal, injected, ignored, cancelled, encodeTime, records).
+
+
+def sent(*frames, time=0):
+    return corpus.touch(time, frames)
+
+
+DOWN, UPDATE, LIFT = contact(1, 0x19, 5, 6), contact(1, 0x1A, 7, 8), contact(1, 0x04, 5, 6)
+HOVER = contact(2, 0x0A, 9, 9)
+OPEN = corpus.client_ready(0, 0x00010001, 2)
+UNTIMED = corpus.client_ready(2, 0x00010001, 2)
+ACCEPTED = (0, 0, 0, 0, 0, 0)
+
+RULES = (
+    ("an unknown id's update is no other contact's, and the frame's early contacts are not written", (
+        (OPEN, ACCEPTED),
+        (sent(frame(DOWN)), (0, 1, 0, 0, 0, 2)),
+        (sent(frame(UPDATE, contact(3, 0x1A, 7, 8))), (0, 0, 0, 1, 0, 1)),
+    )),
+    ("an ignored lift or update does not end the ignoring", (
+        (OPEN, ACCEPTED),
+        (sent(frame(UPDATE), frame(LIFT), frame(UPDATE), frame()), (0, 0, 3, 1, 0, 0)),
+        (sent(frame(HOVER), frame(DOWN, HOVER)), (0, 0, 2, 0, 0, 0)),
+        (sent(frame(DOWN)), (0, 1, 0, 0, 0, 2)),
+    )),
+    ("frames before a bad one in the same message stay", (
+        (OPEN, ACCEPTED),
+        (sent(frame(DOWN), frame(HOVER), frame(HOVER, HOVER), frame(LIFT), time=4), (0, 2, 1, 1, 4, 6)),
+    )),
+    ("an opening frame that does not conform is cancelled and the mode stays", (
+        (OPEN, ACCEPTED),
+        (sent(frame(UPDATE)), (0, 0, 0, 1, 0, 0)),
+        (sent(frame(DOWN, DOWN)), (0, 0, 0, 1, 0, 0)),
+        (sent(frame(*(contact(each, 0x19) for each in range(3)))), (0, 0, 0, 1, 0, 0)),
+        (sent(frame(HOVER)), (0, 0, 1, 0, 0, 0)),
+        (sent(frame(*(contact(each, 0x19) for each in range(2)))), (0, 1, 0, 0, 0, 3)),
+    )),
+    ("legal from the state before the frame, active after it", (
+        (OPEN, ACCEPTED),
+        (sent(frame(DOWN, HOVER)), (0, 1, 0, 0, 0, 3)),
+        (sent(frame(contact(3, 0x0A), LIFT)), (0, 1, 0, 0, 0, 3)),
+        (sent(frame(contact(4, 0x0A))), (0, 0, 0, 1, 0, 2)),
+    )),
+    ("dismissals", (
+        (OPEN, ACCEPTED),
+        (sent(frame(DOWN, HOVER)), (0, 1, 0, 0, 0, 3)),
+        (corpus.dismiss(1), ACCEPTED),
+        (corpus.dismiss(2), (0, 0, 0, 0, 0, 1)),
+        (corpus.dismiss(2), ACCEPTED),
+        (sent(frame(LIFT)), (0, 1, 0, 0, 0, 2)),
+    )),
+    ("the first frame's offset", (
+        (sent(frame(DOWN)), (3, 0, 0, 0, 0, 0)),
+        (corpus.dismiss(1), (3, 0, 0, 0, 0, 0)),
+        (OPEN, ACCEPTED),
+        (OPEN, (3, 0, 0, 0, 0, 0)),
+        (sent(time=8), (0, 0, 0, 0, 8, 0)),
+        (sent(frame(offset=1)), (11, 0, 0, 0, 0, 0)),
+        (sent(frame(UPDATE), frame(offset=1), time=8), (0, 0, 1, 1, 8, 0)),
+        (sent(frame(offset=1)), (0, 0, 1, 0, 0, 0)),
+    )),
+    ("no timestamps", (
+        (UNTIMED, ACCEPTED),
+        (sent(frame(DOWN, offset=5), time=8), (0, 1, 0, 0, 0, 2)),
+    )),
+)
+
+
+def check_receiver_rules():
+    for rule, steps in RULES:
+        keeper = receiver.Receiver()
+        for number, (message, want) in enumerate(steps, 1):
+            keeper, answer = receiver.receive(keeper, message, bytearray(programs.LENT_TO_READERS))
+            same(f"{rule}, message {number}", answer, want)
+
+
+def check_untimed_records():
+    """Ready flag 2: the head has offset 0."""
+    data = entries.join([UNTIMED, sent(frame(DOWN, offset=5), time=8)])
+    same("untimed", [house.unpack(record) for record in chunks(programs.records(data))], [house.Head(1, 0), DOWN])
+
+
+def check_cancel_records():
+    """By rising id, flags by the state, the stored position, no optional field."""
+    ready = corpus.client_ready(0, 0x00010000, 9)
+    arrivals = [contact(255, 0x19, -1, 2, pressure=3), contact(0, 0x0A, 4, 5, orientation=6), contact(9, 0x19)]
+    data = entries.join([ready, sent(frame(*arrivals)), sent(frame(contact(9, 0x1A, 7, 7)), frame(contact(9, 0x02)))])
+    want = [
+        house.Contact(2, 0x22, 0, 0, 4, 5),
+        house.Contact(2, 0x24, 0, 9, 7, 7),
+        house.Contact(2, 0x24, 0, 255, -1, 2),
+    ]
+    same("cancel", [house.unpack(record) for record in chunks(programs.records(data))][-3:], want)
+
+
+# House records.
+
+
+def check_house(rng):
+    same("head layout", sum(width for _, width in house.HEAD_LAYOUT), 168)
+    same("contact layout", sum(width for _, width in house.CONTACT_LAYOUT), 168)
+    for _ in range(300):
+        one = corpus.random_contact(rng)
+        record = house.pack_contact(one)
+        same("contact", (house.unpack(record), house.well_formed(record)), (one, True))
+        head = house.Head(rng.randrange(64), rng.randrange(1 << 61))
+        record = house.pack_head(head)
+        same("head", (house.unpack(record), house.well_formed(record)), (head, True))
+    for wrong in (
+        house.Contact(flags=0x19, x=-(1 << 29)),
+        house.Contact(flags=0x19, fields_present=1, top=-(1 << 14)),
+        house.Contact(flags=0x18),
+        house.Contact(flags=0x19, left=1),
+        house.Contact(kind=2, flags=0x02),
+        house.Contact(kind=3, flags=0x22),
+    ):
+        same(f"{wrong}", house.well_formed(house.pack_contact(wrong)), False)
+
+
+# The six messages.
+
+WRITTEN = (
+    (messages.write_server_ready, (0x00010001,), "01 00 0A 00 00 00 01 00 01 00"),
+    (messages.write_client_ready, (0, 0x00010001, 10), BENCH_ENTRIES[0]),
+    (messages.write_suspend, (), "04 00 06 00 00 00"),
+    (messages.write_resume, (), "05 00 06 00 00 00"),
+    (messages.write_dismiss, (7,), "06 00 07 00 00 00 07"),
+    (messages.write_touch, (0, b""), "03 00 08 00 00 00 00 00"),
+)
+
+READERS = (
+    (messages.read_server_ready, "01 00 0A 00 00 00 01 00 01 00", 0x00010001),
+    (messages.read_client_ready, BENCH_ENTRIES[0], (0, 0x00010001, 10)),
+    (messages.read_suspend, "04 00 06 00 00 00", None),
+    (messages.read_resume, "05 00 06 00 00 00", None),
+    (messages.read_dismiss, "06 00 07 00 00 00 07", 7),
+    (messages.read_touch, "03 00 08 00 00 00 00 00", (0, ())),
+)
+
+
+def check_messages():
+    for write, values, text in WRITTEN:
+        data = bytes.fromhex(text)
+        out = bytearray(b"\xee" * (len(data) + 1))
+        same(write.__name__, write(out, *values), (0, len(data)))
+        same(f"{write.__name__} bytes", bytes(out), data + b"\xee")
+        same(f"{write.__name__} room", write(bytearray(len(data) - 1), *values), (13, 0))
+    for read, text, value in READERS:
+        data = bytes.fromhex(text)
+        same(read.__name__, read(data), value)
+        longer = corpus.message(data[0], data[6:] + b"\0")
+        same(f"{read.__name__} longer", refusal_of(lambda: read(longer)), 12)
+    same("version", messages.write_server_ready(bytearray(), 0x00010002), (8, 0))
+    same("flags", messages.write_client_ready(bytearray(), 4, 0x00010000, 0), (8, 0))
+
+
+def check_round_trip(rng):
+    """Plain reading, then writing: the same bytes, over messages made field by field."""
+    for _ in range(200):
+        message = corpus.touch(corpus.random_value(rng, U4), corpus.random_frames(rng))
+        line = programs.plain_line(message)
+        same(message.hex(), line.split(" ")[0] + line[-5:], "0 same")
+
+
+def main():
+    rng = random.Random(SEED)
+    check_integers()
+    check_integer_writers()
+    check_every_short_reading()
+    check_bench_example()
+    check_limits()
+    check_first_fault_answers()
+    check_lift_elsewhere()
+    check_receiver_rules()
+    check_untimed_records()
+    check_cancel_records()
+    check_house(rng)
+    check_messages()
+    check_round_trip(rng)
+    for difference in differences:
+        print(difference)
+    print("differences", len(differences))
+    sys.exit(1 if differences else 0)
+
+
+if __name__ == "__main__":
+    main()

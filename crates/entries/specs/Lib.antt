@@ -1,0 +1,2 @@
+-- A bench file.
+pub mod Entries

@@ -1,0 +1,2 @@
+-- Windows over a lent space.
+pub mod Within

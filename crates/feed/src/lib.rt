@@ -1,0 +1,97 @@
+// The entries of a bench file from standard input, through a lent space: a file of any size in constant memory.
+use entries::Front;
+ghost use mathlib.Core.Path.{_≡_};
+ghost use Prim.Native.Nat.{_+_, _≤_};
+ghost use lib.ListN.{length};
+ghost use Rattle.feed.specs.Within.{Inside, Within};
+
+// How much space every entry fits into: two bytes of length and 65,535 more, and as much again to read ahead.
+pub const SPACE: usize = 131072;
+
+// The bytes of the space that were read and not yet handed out.
+pub struct Window {
+    pub at: usize,
+    pub end: usize,
+}
+
+// What comes next.
+pub enum Next {
+    // An entry: its message begins there and has that many bytes; and what is left after it.
+    Entry(usize, usize, Window),
+    // The input ends inside an entry.
+    Cut,
+    // The input is at its end.
+    End,
+}
+
+// Nothing read yet.
+pub fn opened() -> Window
+    ensures { λ r. ⌜ (r .at ≡ 0) × (r .end ≡ 0) ⌝ }
+{
+    Window { at: 0, end: 0 }
+}
+
+// Moves what is left of the window to the front.
+fn moved(space: &mut [u8], window: Window) -> usize
+    requires { ⌜ Inside (length (now space)) window ⌝ }
+    ensures { λ r. ⌜ (r ≤ length (now (space .exit))) × (length (now (space .exit)) ≡ length (now (space .entry))) ⌝ }
+{
+    let mut from = window.at;
+    let mut to: usize = 0;
+    let end = window.end;
+    while from < end {
+        space[to] = space[from];
+        from += 1;
+        to += 1;
+    }
+    to
+}
+
+// Reads on behind the bytes that are kept, until the space is full or the input ends.
+fn read_on(space: &mut [u8], kept: usize) -> usize
+    requires { ⌜ kept ≤ length (now space) ⌝ }
+    ensures { λ r. ⌜ (r ≤ length (now (space .exit))) × (length (now (space .exit)) ≡ length (now (space .entry))) ⌝ }
+{
+    kept + io::read_full(libc::STDIN_FILENO, &mut space[kept..])
+}
+
+// The entry that stands at a place of the bytes up to end, if it is whole.
+fn entry_at(space: &[u8], at: usize, end: usize) -> Next
+    requires { ⌜ (at ≤ end) × (end ≤ length (now space)) ⌝ }
+    ensures { λ r. ⌜ Within (length (now (space .entry))) r ⌝ }
+{
+    let seen = entries::read_front(&space[at..end]);
+    let Front::Entry(n) = seen else {
+        return Next::Cut;
+    };
+    let start = at + 2;
+    let rest = Window {
+        at: start + n,
+        end: end,
+    };
+    Next::Entry(start, n, rest)
+}
+
+// The next entry, which is read on for where the window does not hold it whole.
+pub fn next_entry(space: &mut [u8], window: Window) -> Next
+    ensures { λ r. ⌜ Within (length (now (space .exit))) r ⌝ }
+{
+    let at = window.at;
+    let end = window.end;
+    if space.len() < end {
+        return Next::End;
+    }
+    if end < at {
+        return Next::End;
+    }
+    let seen = entry_at(space, at, end);
+    if let Next::Entry(_, _, _) = seen {
+        return seen;
+    }
+    let kept = moved(space, window);
+    let all = read_on(space, kept);
+    if all == 0 {
+        return Next::End;
+    }
+    entry_at(space, 0, all)
+}

@@ -1,0 +1,9 @@
+pub mod Fields
+pub mod Twos
+pub mod Filling
+pub mod WellFormed
+pub mod Front
+pub mod Round
+pub mod Learnt
+pub mod Unique
+mod Writing

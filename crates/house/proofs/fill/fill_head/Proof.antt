@@ -1,0 +1,56 @@
+-- `house::fill::fill_head` meets its contract: each field follows the last, and 99 zeros are 59 and 40.
+-- Assumes nothing.
+use mathlib.Core.Path.{refl}
+use Rattle.house.proofs.Filling.{puts-then, puts-all}
+use Rattle.house.specs.Fields.{pack, packed}
+use Rattle.house.specs.Layout.{headFields, headBytes}
+use Rattle.house.proofs.Fields.{length-packed, zeros}
+use borrow.Author.Needs.{needs}
+use Rattle.house.proofs.fill.fill_head.Statement.{statement}
+use Rattle.house.proofs.fill.fill_head.Tie as tie
+
+put-requires : tie.Need-put-requires
+put-requires c κs = search needs
+
+cast-put : tie.Need-cast-put
+cast-put c = search needs
+
+put-requires-2 : tie.Need-put-requires-2
+put-requires-2 c κs = search needs
+
+put-requires-3 : tie.Need-put-requires-3
+put-requires-3 c κs = search needs
+
+put-requires-4 : tie.Need-put-requires-4
+put-requires-4 c κs = search needs
+
+put-requires-5 : tie.Need-put-requires-5
+put-requires-5 c κs = search needs
+
+same-length : tie.Need-same-length
+same-length c = search needs
+
+returns : tie.Need-returns
+unfolding packed headBytes
+returns c =
+    let z = c .before .before in
+    let y = z .before .before .before .before in
+    let x = y .before .before .before .before in
+    let n = x .before .before .before .before in
+    let k = n .before .before .before .before .before in
+    let fs = headFields (k .before .before .before .before .args .head) in
+    rw (length-packed fs)
+    (puts-all (pack fs) (puts-then (puts-then (puts-then (puts-then (k .put .ensures) (n .put2 .ensures)) (x .put3 .ensures)) (y .put4 .ensures)) (z .put5 .ensures)) refl (zeros _ 59 40))
+
+pub fill-head-spec : {M : Type 1} → statement M
+fill-head-spec =
+    tie.close
+    (tie.spec
+    put-requires
+    cast-put
+    put-requires-2
+    put-requires-3
+    put-requires-4
+    put-requires-5
+    same-length
+    returns)

@@ -1,0 +1,122 @@
+// House records: 21 bytes, bit-packed, most significant bit first.
+use paper::Microseconds;
+use slices::Written;
+ghost use mathlib.Core.Path.{_≡_};
+ghost use Rattle.slices.specs.Writing.{bytes, Writes};
+ghost use Rattle.house.specs.Layout.{headBytes, contactBytes, recordOf};
+ghost use Rattle.house.specs.WellFormed.{wellFormed};
+
+mod bits;
+mod fill;
+mod read;
+mod signs;
+mod well;
+
+// How many bytes a record has.
+pub const RECORD_BYTES: usize = 21;
+
+// The kinds: a frame's head, a frame's contact, a cancel, a dismissal.
+pub const HEAD: u8 = 0;
+
+pub const TOUCHED: u8 = 1;
+
+pub const CANCELLED: u8 = 2;
+
+pub const DISMISSED: u8 = 3;
+
+// The limits of a contact's values: of a coordinate's and a side's magnitude, of an orientation and of a pressure.
+pub const PLACE_MOST: u32 = 0x1FFFFFFF;
+
+pub const SIDE_MOST: u32 = 0x3FFF;
+
+pub const ORIENTATION_MOST: u16 = 359;
+
+pub const PRESSURE_MOST: u16 = 65000;
+
+// A frame's head: how many contacts follow, and the time since the frame before.
+pub struct Head {
+    pub count: u8,
+    pub offset: Microseconds,
+}
+
+pub struct Point {
+    pub x: i32,
+    pub y: i32,
+}
+
+pub struct Sides {
+    pub left: i16,
+    pub top: i16,
+    pub right: i16,
+    pub bottom: i16,
+}
+
+// A contact as a message or a record carries it; its kind stands beside it.
+pub struct Contact {
+    pub flags: u8,
+    pub present: u8,
+    pub id: u8,
+    pub place: Point,
+    pub sides: Sides,
+    pub orientation: u16,
+    pub pressure: u16,
+}
+
+// What stands at the front of a slice of records: a head, a contact with its kind, or no whole record and the refusal for it.
+pub enum Record {
+    Head(Head),
+    Contact(u8, Contact),
+    Refused(u8),
+}
+
+// Writes a head at the front of what is lent, where there is room.
+pub fn write_head(out: &mut [u8], head: Head) -> Written
+    ensures { λ r. ⌜ Writes (bytes (headBytes head)) r (now (out .entry)) (now (out .exit)) ⌝ }
+{
+    let mut whole = [0u8; RECORD_BYTES];
+    fill::fill_head(&mut whole, head);
+    slices::lay(out, &whole)
+}
+
+// Writes a contact at the front of what is lent, where there is room.
+pub fn write_contact(out: &mut [u8], kind: u8, contact: Contact) -> Written
+    ensures { λ r. ⌜ Writes (bytes (contactBytes kind contact)) r (now (out .entry)) (now (out .exit)) ⌝ }
+{
+    let mut whole = [0u8; RECORD_BYTES];
+    fill::fill_contact(&mut whole, kind, contact);
+    slices::lay(out, &whole)
+}
+
+// The record at the front of a slice of records, well formed or not.
+pub fn read_record(records: &[u8]) -> Record
+    ensures { λ r. ⌜ r ≡ recordOf (now (records .entry)) ⌝ }
+{
+    if records.len() < RECORD_BYTES {
+        return Record::Refused(paper::BAD_RECORD);
+    }
+    let whole = &records[..RECORD_BYTES];
+    let kind = read::read_kind(whole);
+    if kind == HEAD {
+        return Record::Head(read::read_head(whole));
+    }
+    Record::Contact(kind, read::read_contact(whole))
+}
+
+// Whether the record at the front of a slice of records is whole and well formed.
+pub fn is_well_formed(records: &[u8]) -> bool
+    ensures { λ r. ⌜ r ≡ wellFormed (now (records .entry)) ⌝ }
+{
+    if records.len() < RECORD_BYTES {
+        return false;
+    }
+    let whole = &records[..RECORD_BYTES];
+    let kind = read::read_kind(whole);
+    if kind == HEAD {
+        return well::is_head_spare_zero(whole);
+    }
+    let spare_zero = well::is_contact_spare_zero(whole);
+    let contact = read::read_contact(whole);
+    let contact_well = well::is_contact_well(contact);
+    let kind_well = well::is_kind_well(kind, contact);
+    spare_zero & contact_well & kind_well
+}

@@ -1,0 +1,83 @@
+// Signed numbers: the sign and the magnitude, and fields in two's complement.
+use crate::bits::Place;
+ghost use mathlib.Core.Path.{_≡_};
+ghost use Prim.Native.Nat.{_+_, _-_, _/_, _%_, _^_, _<_};
+ghost use mathlib.Core.List.{[], _∷_};
+ghost use lib.ListN.{length};
+ghost use lib.Signed.{mag};
+ghost use Rattle.digits.specs.Digits.{joined};
+ghost use Rattle.house.specs.Twos.{twosOf, ofTwos, Holds};
+ghost use Rattle.house.specs.Layout.{signed};
+ghost use Rattle.house.specs.WellFormed.{above, zero?};
+ghost use Rattle.house.specs.Filling.{Ready, Puts, Within};
+
+fn pow2(k: usize) -> u64
+    requires { ⌜ k < 64 ⌝ }
+    ensures { λ r. ⌜ r ≡ 2 ^ k ⌝ }
+{
+    1 << k
+}
+
+// n both of n and of -(n + 1), so that no number has no magnitude.
+fn magnitude(x: i32) -> u32
+    ensures { λ r. ⌜ r ≡ mag x ⌝ }
+{
+    if x < 0 { (-1 - x) as u32 } else { x as u32 }
+}
+
+// Whether x is no less than -n.
+pub(crate) fn is_above(n: u32, x: i32) -> bool
+    ensures { λ r. ⌜ r ≡ above n x ⌝ }
+{
+    if x < 0 { magnitude(x) < n } else { true }
+}
+
+pub(crate) fn is_zero(x: i32) -> bool
+    ensures { λ r. ⌜ r ≡ zero? x ⌝ }
+{
+    if x < 0 { false } else { magnitude(x) == 0 }
+}
+
+// x modulo 2^width.
+fn twos(x: i32, width: usize) -> u64
+    requires { ⌜ width < 33 ⌝ }
+    ensures { λ r. ⌜ r ≡ twosOf width x ⌝ }
+{
+    let p = pow2(width);
+    let m = magnitude(x) as u64 % p;
+    if x < 0 { p - 1 - m } else { m }
+}
+
+// The number of a field of width bits.
+fn of_twos(v: u64, width: usize) -> i32
+    requires { ⌜ (width < 33) × (v < 2 ^ width) ⌝ }
+    ensures { λ r. ⌜ (r ≡ ofTwos width v) × Holds width r ⌝ }
+{
+    let p = pow2(width);
+    if 2 * v < p {
+        v as i32
+    } else {
+        let m = (p - 1 - v) as i32;
+        -1 - m
+    }
+}
+
+// Writes a signed field.
+pub(crate) fn put_signed(out: &mut [u8], place: Place, width: usize, x: i32) -> Place
+    requires { ⌜ width < 33 ⌝ }
+    requires { ⌜ Ready place width (length (now out)) ⌝ }
+    ensures { λ r. ⌜ Puts (signed width x ∷ []) (now (out .entry)) place (now (out .exit)) r ⌝ }
+{
+    let v = twos(x, width);
+    crate::bits::put(out, place, width, v)
+}
+
+// Reads a signed field.
+pub(crate) fn get_signed(whole: &[u8], at: usize, width: usize) -> i32
+    requires { ⌜ width < 33 ⌝ }
+    requires { ⌜ Within at width (length (now whole)) ⌝ }
+    ensures { λ r. ⌜ (r ≡ ofTwos width (joined 0 (now (whole .entry)) / 2 ^ (168 - (at + width)) % 2 ^ width)) × Holds width r ⌝ }
+{
+    let v = crate::bits::get(whole, at, width);
+    of_twos(v, width)
+}

@@ -77,7 +77,7 @@ module _ {A : Type 0} (f : Format A) (q : A → Bool) (e : ℕ) where
   such-back hf b t h = rw (hf b t (h .0), h .1)
 
   -- what a read with a test gives
-  such-got : (l : List ℕ) (b : A) (t : List ℕ) → such f q e .read l ≡ got b t → (f .read l ≡ got b t) × (q b ≡ true)
+  pub such-got : (l : List ℕ) (b : A) (t : List ℕ) → such f q e .read l ≡ got b t → (f .read l ≡ got b t) × (q b ≡ true)
   such-got l b t h = go (f .read l) refl h
     where
       go : (x : Got A) → f .read l ≡ x → andThen x (λ a t. cond (q a) (got a t) (bad e)) ≡ got b t → (f .read l ≡ got b t) × (q b ≡ true)
@@ -150,6 +150,14 @@ module _ {A : Type 0} (f : Bool → Format A) where
           on : (y : Got (List A)) → readSeries reads false n u ≡ y → andThen y (λ more u. got (a ∷ more) u) ≡ got s t → More first n l s t
           on (bad x) v h = never x s t h
           on (got r k) v h = let z : k ≡ t = cc in record { head = a; after = u; rest = r; one = w; others = rw z at v; all = cc }
+
+  -- as many as were asked for
+  pub series-length : (first : Bool) (n : ℕ) (l : List ℕ) (s : List A) (t : List ℕ) → readSeries reads first n l ≡ got s t → length s ≡ n
+  unfolding readSeries
+  series-length first zero l s t h = let z : s ≡ [] = cc in rw z
+  series-length first (suc n) l s t h =
+      let m = more-got first n l s t h in
+      rw (m .all) (ap suc (series-length false n (m .after) (m .rest) t (m .others)))
 
   pub series-sound : ((b : Bool) → Sound (f b)) → (first : Bool) (n : ℕ) → Sound (series f first n)
   unfolding Each readSeries

@@ -87,10 +87,16 @@ refusal-made h e (got a (y ∷ t)) = refl
 refusal-made h e (bad x) = refl
 
 -- bytes are left where the end comes before the length
-pub ended-more : (e at : ℕ) (s : List ℕ) → at < length s → refusalOf (ended e (tt {0}) (drop at s)) ≡ e
+pub ended-bad : {A : Type 0} (e : ℕ) (a : A) (at : ℕ) (s : List ℕ) → at < length s → ended e a (drop at s) ≡ bad e
 unfolding ended
-ended-more e at s h = rw (drop-cons s at 0)
+ended-bad e a at s h = rw (drop-cons s at 0)
+
+pub ended-got : {A : Type 0} (e : ℕ) (a : A) (at : ℕ) (s : List ℕ) → length s ≤ at → ended e a (drop at s) ≡ got a []
+unfolding ended
+ended-got e a at s h = rw (drop-of-length-le s h)
+
+pub ended-more : (e at : ℕ) (s : List ℕ) → at < length s → refusalOf (ended e (tt {0}) (drop at s)) ≡ e
+ended-more e at s h = ap refusalOf (ended-bad e (tt {0}) at s h)
 
 pub ended-none : (e at : ℕ) (s : List ℕ) → length s ≤ at → refusalOf (ended e (tt {0}) (drop at s)) ≡ 0
-unfolding ended
-ended-none e at s h = rw (drop-of-length-le s h)
+ended-none e at s h = ap refusalOf (ended-got e (tt {0}) at s h)

@@ -1,10 +1,11 @@
 -- Fields put one after the other: what one put does, and how runs of fields follow each other.
 -- Assumes nothing.
-use mathlib.Core.Path.{_≡_, refl, sym, ap, _∙_}
+use mathlib.Core.Path.{_≡_, refl, sym, ap, _∙_, subst}
 use mathlib.Core.List.{List, [], _∷_, _++_, append-assoc}
 use Prim.Native.Nat.{ℕ, _+_, _*_, _/_, _%_, _^_, _≤_, _<_}
 use native.Mathlib.Nat.{mul-assoc, add-assoc, add-mul, mod-lt, mul-add-div-right, mul-add-mod-self-right, div-one}
 use native.Mathlib.Omega.{arith}
+use lib.IntN.{ℤ}
 use lib.ListN.{length, take, drop}
 use lib.Seq.{take-at, drop-append-add, drop-drop}
 use lib.Pow.{pow-pos, pow-add, split, shr-lt}
@@ -12,6 +13,7 @@ use lib.Arith.{digits-lt}
 use Rattle.digits.specs.Digits.{digits}
 use Rattle.digits.proofs.Laws.{pow-bits, length-digits, digits-high}
 use Rattle.house.specs.Fields.{Field, field, pack, packFrom, total, widths}
+use Rattle.house.specs.Layout.{signed}
 use Rattle.house.specs.Filling.{Filled, Ready, Word, Puts}
 use Rattle.house.specs.declared.bits.Place.{Place}
 use Rattle.house.proofs.Fields.{pack-append, total-append}
@@ -71,6 +73,10 @@ puts-one out after p w v k r n m e l en em size ea =
             bytes = ea ∙ rw (en, f .pending, ti, si, di, dr, grown-digits y w x u k r e i (mod-lt v (pow-pos w)), append-assoc);
           };
     }
+
+-- a signed field is its number's
+pub puts-same : (w : ℕ) {a b : List ℕ} {p q : Place} {y z : ℤ} → y ≡ z → Puts (signed w y ∷ []) a p b q → Puts (signed w z ∷ []) a p b q
+puts-same w {a} {b} {p} {q} e h = subst (λ (x : ℤ). Puts (signed w x ∷ []) a p b q) e h
 
 -- ---- runs of fields
 

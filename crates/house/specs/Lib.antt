@@ -3,5 +3,6 @@ pub mod Fields
 pub mod Twos
 pub mod Layout
 pub mod WellFormed
-pub mod Filling
 pub mod Fits
+pub mod Parts
+pub mod Filling

@@ -12,8 +12,10 @@ ghost use lib.ListN.{length};
 ghost use Rattle.slices.specs.Writing.{laid};
 ghost use Rattle.house.specs.Layout.{signed, headBytes, contactBytes};
 ghost use mathlib.Core.List.{[], _∷_};
-ghost use Rattle.house.specs.Filling.{Ready, Puts, leadFields, pointFields, sidesFields, lastFields};
+ghost use Rattle.house.specs.Filling.{Ready, Puts};
+ghost use Rattle.house.specs.Parts.{leadFields, pointFields, sidesFields, lastFields};
 
+// Lays a head over the front of an output that has room.
 pub(crate) fn fill_head(out: &mut [u8], head: Head)
     requires { ⌜ 21 ≤ length (now out) ⌝ }
     ensures { λ _. ⌜ now (out .exit) ≡ laid (now (out .entry)) (headBytes head) ⌝ }
@@ -23,14 +25,15 @@ pub(crate) fn fill_head(out: &mut [u8], head: Head)
         pending: 0,
     };
     let offset = head.offset;
-    let kind = put(out, start, 2, 0);
-    let count = put(out, kind, 6, head.count as u64);
-    let micros = put(out, count, 61, offset.0);
-    // 99 zeros are more than a word
-    let zeros = put(out, micros, 59, 0);
-    put(out, zeros, 40, 0);
+    let at_count = put(out, start, 2, 0);
+    let at_offset = put(out, at_count, 6, head.count as u64);
+    let at_zeros = put(out, at_offset, 61, offset.0);
+    // 99 zeros are more than a word, so they go in two parts
+    let at_last = put(out, at_zeros, 59, 0);
+    put(out, at_last, 40, 0);
 }
 
+// Kind, flags, fieldsPresent and id.
 fn put_lead(out: &mut [u8], place: Place, kind: u8, contact: Contact) -> Place
     requires { ⌜ Ready place 19 (length (now out)) ⌝ }
     ensures { λ r. ⌜ Puts (leadFields kind contact) (now (out .entry)) place (now (out .exit)) r ⌝ }
@@ -66,6 +69,7 @@ fn put_sides(out: &mut [u8], place: Place, sides: Sides) -> Place
     put_side(out, at_bottom, sides.bottom)
 }
 
+// Orientation, pressure and the unused bits.
 fn put_last(out: &mut [u8], place: Place, contact: Contact) -> Place
     requires { ⌜ Ready place 29 (length (now out)) ⌝ }
     ensures { λ r. ⌜ Puts (lastFields contact) (now (out .entry)) place (now (out .exit)) r ⌝ }
@@ -75,6 +79,7 @@ fn put_last(out: &mut [u8], place: Place, contact: Contact) -> Place
     put(out, at_zeros, 4, 0)
 }
 
+// Lays a contact over the front of an output that has room.
 pub(crate) fn fill_contact(out: &mut [u8], kind: u8, contact: Contact)
     requires { ⌜ 21 ≤ length (now out) ⌝ }
     ensures { λ _. ⌜ now (out .exit) ≡ laid (now (out .entry)) (contactBytes kind contact) ⌝ }

@@ -13,7 +13,8 @@ ghost use Rattle.digits.specs.Digits.{joined};
 ghost use Rattle.house.specs.Fields.{unpacked};
 ghost use Rattle.house.specs.Layout.{contactWidths, kindOf, headOf, contactOf};
 ghost use Rattle.house.specs.Twos.{ofTwos, Holds};
-ghost use Rattle.house.specs.Filling.{Within, pointAs, sidesAs};
+ghost use Rattle.house.specs.Filling.{Within};
+ghost use Rattle.house.specs.Parts.{pointAs, sidesAs};
 
 pub(crate) fn read_kind(whole: &[u8]) -> u8
     requires { ⌜ length (now whole) ≡ 21 ⌝ }

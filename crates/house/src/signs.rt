@@ -18,7 +18,7 @@ fn pow2(k: usize) -> u64
     1 << k
 }
 
-// n both of n and of -(n + 1), so that no number has no magnitude.
+// n both of n and of -(n + 1): unlike an absolute value it fits for every number.
 fn magnitude(x: i32) -> u32
     ensures { λ r. ⌜ r ≡ mag x ⌝ }
 {

@@ -14,10 +14,9 @@ use crate::signs::is_zero;
 ghost use mathlib.Core.Path.{_≡_};
 ghost use lib.ListN.{length};
 ghost use lib.Dec.{eqb};
-ghost use mathlib.Core.Bool.{true, false};
 ghost use Prim.Native.Nat.{_<_};
-ghost use Rattle.house.specs.WellFormed.{has, atMost, zero?, sideWell, sidesWell, contactWell, kindWell, headSpare, contactSpare};
-ghost use Rattle.house.specs.Filling.{pointWell};
+ghost use Rattle.house.specs.WellFormed.{has, atMost, sidesWell, contactWell, kindWell, headSpare, contactSpare};
+ghost use Rattle.house.specs.Parts.{oneSideWell, pointWell};
 
 // Whether the 99 unused bits of a head are 0: more than a word, so in two parts.
 pub(crate) fn is_head_spare_zero(whole: &[u8]) -> bool
@@ -51,46 +50,26 @@ fn is_at_most(there: bool, most: u16, value: u16) -> bool
     if there { value <= most } else { value == 0 }
 }
 
-fn is_side_well(side: i16) -> bool
-    ensures { λ r. ⌜ r ≡ sideWell side ⌝ }
+// A side that is there is in S2's range, and one that is not is 0.
+fn is_side_well(there: bool, side: i16) -> bool
+    ensures { λ r. ⌜ r ≡ oneSideWell there side ⌝ }
 {
-    is_above(SIDE_MOST, side as i32)
-}
-
-fn is_side_zero(side: i16) -> bool
-    ensures { λ r. ⌜ r ≡ zero? side ⌝ }
-{
-    is_zero(side as i32)
-}
-
-fn are_sides_in_range(sides: Sides) -> bool
-    ensures { λ r. ⌜ r ≡ sidesWell true sides ⌝ }
-{
-    let left = is_side_well(sides.left);
-    let top = is_side_well(sides.top);
-    let right = is_side_well(sides.right);
-    let bottom = is_side_well(sides.bottom);
-    left & top & right & bottom
-}
-
-fn are_sides_zero(sides: Sides) -> bool
-    ensures { λ r. ⌜ r ≡ sidesWell false sides ⌝ }
-{
-    let left = is_side_zero(sides.left);
-    let top = is_side_zero(sides.top);
-    let right = is_side_zero(sides.right);
-    let bottom = is_side_zero(sides.bottom);
-    left & top & right & bottom
+    let wide = side as i32;
+    if there {
+        is_above(SIDE_MOST, wide)
+    } else {
+        is_zero(wide)
+    }
 }
 
 fn are_sides_well(there: bool, sides: Sides) -> bool
     ensures { λ r. ⌜ r ≡ sidesWell there sides ⌝ }
 {
-    if there {
-        are_sides_in_range(sides)
-    } else {
-        are_sides_zero(sides)
-    }
+    let left = is_side_well(there, sides.left);
+    let top = is_side_well(there, sides.top);
+    let right = is_side_well(there, sides.right);
+    let bottom = is_side_well(there, sides.bottom);
+    left & top & right & bottom
 }
 
 // Both coordinates are in S4's range.

@@ -5,10 +5,10 @@ use mathlib.Core.Bool.{Bool, true, false, cond}
 use mathlib.Core.List.{List, [], _∷_}
 use Prim.Native.Nat.{ℕ, _+_, _*_, _/_, _%_, _<_, _≤_}
 use native.Mathlib.Omega.{arith}
-use lib.Dec.{eqb, eqb→eq}
+use lib.Dec.{eqb, eqb→eq, ltb}
 use lib.ListN.{getD, length, List·getD-eq-default}
-use borrow.Author.Tests.{ne-eqb}
-use Rattle.states.specs.Table.{Row, table, unlisted, from, illegal, next, placeOf, out, hovering, engaged}
+use borrow.Author.Tests.{ne-eqb, ltb-true, ltb-false}
+use Rattle.states.specs.Table.{Row, table, unlisted, from, illegal, next, listed, placeOf, out, hovering, engaged}
 use Rattle.states.proofs.Below.{below}
 
 -- the entries of `NEXT`
@@ -42,3 +42,28 @@ pub no-row : (k s : ℕ) → 8 ≤ k → from s (getD table k unlisted) ≡ ille
 unfolding from
 no-row k s h =
     rw (List·getD-eq-default table unlisted {n = k} h, either (eqb s engaged) illegal, either (eqb s hovering) illegal, either (eqb s out) illegal)
+
+-- flags that the table has are of six bits
+unlisted-great : (f : ℕ) → 64 ≤ f → listed f ≡ false
+unfolding listed placeOf
+unlisted-great f h =
+    rw (
+      ne-eqb f 0x0A (λ e. omega arith),
+      ne-eqb f 0x19 (λ e. omega arith),
+      ne-eqb f 0x1A (λ e. omega arith),
+      ne-eqb f 0x0C (λ e. omega arith),
+      ne-eqb f 0x04 (λ e. omega arith),
+      ne-eqb f 0x24 (λ e. omega arith),
+      ne-eqb f 0x02 (λ e. omega arith),
+      ne-eqb f 0x22 (λ e. omega arith),
+    )
+
+pub listed-small : (f : ℕ) → listed f ≡ true → f < 64
+listed-small f h = go (ltb f 64) refl
+  where
+    go : (b : Bool) → ltb f 64 ≡ b → f < 64
+    go true e = ltb-true f 64 e
+    go false e =
+        let w : listed f ≡ false = unlisted-great f (ltb-false f 64 e) in
+        let z : _≡_ {A = ℕ} 0 1 = cc in
+        absurd (omega arith)

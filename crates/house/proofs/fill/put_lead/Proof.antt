@@ -2,7 +2,8 @@
 -- Assumes nothing.
 use lib.Dec.{lit≤}
 use lib.ListN.{take}
-use Rattle.house.specs.Filling.{Puts, leadFields}
+use Rattle.house.specs.Filling.{Puts}
+use Rattle.house.specs.Parts.{leadFields}
 use Rattle.house.proofs.Filling.{puts-then, ready-after, word-any}
 use borrow.Author.Needs.{needs}
 use Rattle.house.proofs.fill.put_lead.Statement.{statement}

@@ -1,6 +1,6 @@
 -- `house::fill::put_point` meets its contract: x and then y.
 -- Assumes nothing.
-use Rattle.house.proofs.Filling.{puts-then}
+use Rattle.house.proofs.Filling.{puts-then, puts-same}
 use mir.Syntax.{w32}
 use mir.ValLaws.{toZ-ofZ}
 use borrow.Author.Needs.{needs}
@@ -22,8 +22,8 @@ returns c =
     let e = d .before .before .before .before .before in
     let a = e .before .before .before .before .args in
     puts-then
-    (rw (toZ-ofZ w32 (a .point .x) (record { sfits = e .before .struct-told .given .0 .1 })) at (e .put-signed .ensures))
-    (rw (toZ-ofZ w32 (a .point .y) (record { sfits = d .before .struct-told2 .given .1 .0 .1 })) at (d .put-signed2 .ensures))
+    (puts-same 30 (toZ-ofZ w32 (a .point .x) (record { sfits = e .before .struct-told .given .0 .1 })) (e .put-signed .ensures))
+    (puts-same 30 (toZ-ofZ w32 (a .point .y) (record { sfits = d .before .struct-told2 .given .1 .0 .1 })) (d .put-signed2 .ensures))
 
 pub put-point-spec : {M : Type 1} → statement M
 put-point-spec = tie.close (tie.spec put-signed-requires put-signed-requires-2 same-length returns)

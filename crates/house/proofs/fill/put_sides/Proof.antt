@@ -2,7 +2,7 @@
 -- Assumes nothing.
 use mir.Syntax.{w16}
 use mir.ValLaws.{toZ-ofZ}
-use Rattle.house.proofs.Filling.{puts-then}
+use Rattle.house.proofs.Filling.{puts-then, puts-same}
 use borrow.Author.Needs.{needs}
 use Rattle.house.proofs.fill.put_sides.Statement.{statement}
 use Rattle.house.proofs.fill.put_sides.Tie as tie
@@ -32,10 +32,10 @@ returns c =
     puts-then
     (puts-then
     (puts-then
-    (rw (toZ-ofZ w16 (s .left) (record { sfits = l .before .struct-told .given .0 .1 })) at (l .put-side .ensures))
-    (rw (toZ-ofZ w16 (s .top) (record { sfits = t .before .struct-told2 .given .1 .0 .1 })) at (t .put-side2 .ensures)))
-    (rw (toZ-ofZ w16 (s .right) (record { sfits = r .before .struct-told3 .given .1 .1 .0 .1 })) at (r .put-side3 .ensures)))
-    (rw (toZ-ofZ w16 (s .bottom) (record { sfits = b .before .struct-told4 .given .1 .1 .1 .0 .1 })) at (b .put-side4 .ensures))
+    (puts-same 15 (toZ-ofZ w16 (s .left) (record { sfits = l .before .struct-told .given .0 .1 })) (l .put-side .ensures))
+    (puts-same 15 (toZ-ofZ w16 (s .top) (record { sfits = t .before .struct-told2 .given .1 .0 .1 })) (t .put-side2 .ensures)))
+    (puts-same 15 (toZ-ofZ w16 (s .right) (record { sfits = r .before .struct-told3 .given .1 .1 .0 .1 })) (r .put-side3 .ensures)))
+    (puts-same 15 (toZ-ofZ w16 (s .bottom) (record { sfits = b .before .struct-told4 .given .1 .1 .1 .0 .1 })) (b .put-side4 .ensures))
 
 pub put-sides-spec : {M : Type 1} → statement M
 put-sides-spec =

@@ -1,7 +1,7 @@
 -- `house::signs::twos` meets its contract: by its sign, a number is n or -(n + 1), with n its magnitude.
 -- Assumes nothing.
 use mathlib.Core.Path.{_≡_, ap, _∙_}
-use Prim.Native.Nat.{ℕ, _-_, _%_, _^_, _≤_}
+use Prim.Native.Nat.{ℕ, _-_, _%_, _^_}
 use native.Mathlib.Nat.{mod-lt}
 use native.Mathlib.Omega.{arith}
 use lib.IntN.{ℤ, pos, negsuc}
@@ -14,9 +14,6 @@ use Rattle.house.proofs.Twos.{negative, positive}
 use borrow.Author.Needs.{needs}
 use Rattle.house.proofs.signs.twos.Statement.{statement}
 use Rattle.house.proofs.signs.twos.Tie as tie
-
-room : (w m : ℕ) → m % 2 ^ w ≤ 2 ^ w - 1
-room w m = omega (arith, mod-lt m (pow-pos w))
 
 below : (w m : ℕ) (z : ℤ) → z ≡ negsuc (mag z) → m ≡ mag z → 2 ^ w - 1 - m % 2 ^ w ≡ twosOf w z
 below w m z e q = rw (q, e) (omega arith)
@@ -40,7 +37,9 @@ sub-result : tie.Need-sub-result
 sub-result c = rw (c .before .before .pow2 .ensures) (pow-pos _)
 
 sub-result-2 : tie.Need-sub-result-2
-sub-result-2 c = rw (c .before .before .pow2 .ensures) (room _ _)
+sub-result-2 c =
+    let w = c .before .before .before .args .width in
+    rw (c .before .before .pow2 .ensures) (omega (arith, mod-lt (c .before .magnitude .result) (pow-pos w)))
 
 returns : tie.Need-returns
 returns c =

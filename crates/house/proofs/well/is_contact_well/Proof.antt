@@ -6,7 +6,7 @@ use mathlib.Core.List.{[], _∷_}
 use Prim.Native.Nat.{ℕ}
 use Rattle.states.specs.Table.{listed}
 use Rattle.house.specs.WellFormed.{all, has, orientationMost, pressureMost, placeWell, sidesWell, atMost, contactWell}
-use Rattle.house.specs.Filling.{pointWell}
+use Rattle.house.specs.Parts.{pointWell}
 use Rattle.house.proofs.WellFormed.{ands-all, all-all}
 use borrow.Author.Needs.{needs}
 use Rattle.house.proofs.well.is_contact_well.Statement.{statement}

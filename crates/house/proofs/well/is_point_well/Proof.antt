@@ -7,7 +7,7 @@ use mathlib.Core.Bool.{_&&_}
 use mathlib.Core.List.{[], _∷_}
 use mir.Syntax.{w32}
 use mir.ValLaws.{toZ-ofZ}
-use Rattle.house.specs.Filling.{pointWell}
+use Rattle.house.specs.Parts.{pointWell}
 use borrow.Author.Needs.{needs}
 use Rattle.house.proofs.well.is_point_well.Statement.{statement}
 use Rattle.house.proofs.well.is_point_well.Tie as tie

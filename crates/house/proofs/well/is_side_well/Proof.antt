@@ -1,20 +1,33 @@
--- `house::well::is_side_well` meets its contract: 32 bits hold what 16 do.
+-- `house::well::is_side_well` meets its contract: 32 bits hold what 16 do, and the flag picks the rule.
 -- Assumes nothing.
-use mathlib.Core.Path.{ap, _∙_}
-use Rattle.house.specs.WellFormed.{sideWell}
+use mathlib.Core.Path.{ap, sym, _∙_}
+use mathlib.Core.Bool.{Bool}
+use Rattle.house.specs.WellFormed.{sideWell, zero?}
+use Rattle.house.specs.Parts.{oneSideWell}
 use Rattle.house.proofs.Twos.{cast16, wide16}
 use borrow.Author.Needs.{needs}
 use Rattle.house.proofs.well.is_side_well.Statement.{statement}
 use Rattle.house.proofs.well.is_side_well.Tie as tie
 
-cast-is-above : tie.Need-cast-is-above
-cast-is-above c = cast16 (c .args .side) (c .fits .side)
+cast-wide : tie.Need-cast-wide
+cast-wide c = cast16 (c .args .side) (c .fits .side)
 
 is-above-requires : tie.Need-is-above-requires
 is-above-requires c κs = search needs
 
+is-zero-requires : tie.Need-is-zero-requires
+is-zero-requires c κs = search needs
+
 returns : tie.Need-returns
-returns c = c .is-above .ensures ∙ ap sideWell (wide16 (c .before .args .side) (c .before .fits .side))
+returns c =
+    let s = c .before .before in
+    c .is-above .ensures ∙ ap sideWell (wide16 (s .args .side) (s .fits .side)) ∙ ap (λ (b : Bool). oneSideWell b (s .args .side)) (sym (c .before .if1 .taken))
+
+returns-2 : tie.Need-returns-2
+returns-2 c =
+    let s = c .before .before in
+    c .is-zero .ensures ∙ ap zero? (wide16 (s .args .side) (s .fits .side)) ∙ ap (λ (b : Bool). oneSideWell b (s .args .side)) (sym (c .before .if1 .left))
 
 pub is-side-well-spec : {M : Type 1} → statement M
-is-side-well-spec = tie.close (tie.spec cast-is-above is-above-requires returns)
+is-side-well-spec =
+    tie.close (tie.spec cast-wide is-above-requires is-zero-requires returns returns-2)

@@ -1,0 +1,3 @@
+-- Integers as fields.
+pub mod Integers
+pub mod Answer

@@ -1,0 +1,1 @@
+// The five integers as fields of messages: the definitions stand in specs/, their laws in proofs/.

@@ -1,0 +1,111 @@
+// The writers: the meaning, then room for the whole, and only then the bytes, each field from where the last one ended.
+ghost use mathlib.Core.Path.{_≡_};
+ghost use Prim.Native.Nat.{_≤_};
+ghost use lib.ListN.{length};
+ghost use Rattle.slices.specs.Writing.{bytes, refuse, answered, Writes};
+ghost use Rattle.messages.specs.Header.{header, headerBytes};
+ghost use Rattle.messages.specs.Bodies.{ready, serverReadyDraft, clientReadyDraft, suspendDraft, resumeDraft, dismissDraft};
+ghost use Rattle.messages.specs.Answer.{Put};
+use crate::Ready;
+use crate::body::is_version;
+use crate::little::put_four;
+use crate::little::put_one;
+use crate::little::put_two;
+use slices::Written;
+
+fn refused(refusal: u8) -> Written
+    ensures { λ r. ⌜ r ≡ answered (refuse refusal) ⌝ }
+{
+    Written {
+        refusal: refusal,
+        bytes: 0,
+    }
+}
+
+fn written(bytes: usize) -> Written
+    ensures { λ r. ⌜ r ≡ record { refusal = 0; bytes = bytes } ⌝ }
+{
+    Written {
+        refusal: 0,
+        bytes: bytes,
+    }
+}
+
+// The header's six bytes; total counts them too.
+fn put_header(out: &mut [u8], event: u16, total: u32) -> usize
+    requires { ⌜ headerBytes ≤ length (now out) ⌝ }
+    ensures { λ r. ⌜ Put (header event total) r (now (out .entry)) (now (out .exit)) ⌝ }
+{
+    let at = put_two(out, event);
+    at + put_four(&mut out[at..], total)
+}
+
+fn put_ready(out: &mut [u8], settings: Ready) -> usize
+    requires { ⌜ 10 ≤ length (now out) ⌝ }
+    ensures { λ r. ⌜ Put (ready .write settings) r (now (out .entry)) (now (out .exit)) ⌝ }
+{
+    let at = put_four(out, settings.flags);
+    let end = at + put_four(&mut out[at..], settings.version);
+    end + put_two(&mut out[end..], settings.most)
+}
+
+// A header by itself, for an event and a length that counts the header.
+pub fn write_header(out: &mut [u8], event: u16, length: u32) -> Written
+    ensures { λ r. ⌜ Writes (bytes (header event length)) r (now (out .entry)) (now (out .exit)) ⌝ }
+{
+    if out.len() < crate::HEADER_BYTES {
+        return refused(paper::NO_ROOM);
+    }
+    written(put_header(out, event, length))
+}
+
+pub fn write_server_ready(out: &mut [u8], version: u32) -> Written
+    ensures { λ r. ⌜ Writes (serverReadyDraft version) r (now (out .entry)) (now (out .exit)) ⌝ }
+{
+    if !is_version(version) {
+        return refused(paper::BAD_FIELD);
+    }
+    if out.len() < crate::SERVER_READY_BYTES {
+        return refused(paper::NO_ROOM);
+    }
+    let at = put_header(out, crate::SERVER_READY, crate::SERVER_READY_BYTES as u32);
+    written(at + put_four(&mut out[at..], version))
+}
+
+pub fn write_client_ready(out: &mut [u8], ready: Ready) -> Written
+    ensures { λ r. ⌜ Writes (clientReadyDraft ready) r (now (out .entry)) (now (out .exit)) ⌝ }
+{
+    if crate::FLAGS_END <= ready.flags {
+        return refused(paper::BAD_FIELD);
+    }
+    if !is_version(ready.version) {
+        return refused(paper::BAD_FIELD);
+    }
+    if out.len() < crate::CLIENT_READY_BYTES {
+        return refused(paper::NO_ROOM);
+    }
+    let at = put_header(out, crate::CLIENT_READY, crate::CLIENT_READY_BYTES as u32);
+    written(at + put_ready(&mut out[at..], ready))
+}
+
+pub fn write_suspend(out: &mut [u8]) -> Written
+    ensures { λ r. ⌜ Writes suspendDraft r (now (out .entry)) (now (out .exit)) ⌝ }
+{
+    write_header(out, crate::SUSPEND, crate::HEADER_BYTES as u32)
+}
+
+pub fn write_resume(out: &mut [u8]) -> Written
+    ensures { λ r. ⌜ Writes resumeDraft r (now (out .entry)) (now (out .exit)) ⌝ }
+{
+    write_header(out, crate::RESUME, crate::HEADER_BYTES as u32)
+}
+
+pub fn write_dismiss(out: &mut [u8], id: u8) -> Written
+    ensures { λ r. ⌜ Writes (dismissDraft id) r (now (out .entry)) (now (out .exit)) ⌝ }
+{
+    if out.len() < crate::DISMISS_BYTES {
+        return refused(paper::NO_ROOM);
+    }
+    let at = put_header(out, crate::DISMISS, crate::DISMISS_BYTES as u32);
+    written(at + put_one(&mut out[at..], id))
+}

@@ -1,0 +1,124 @@
+-- `touch::frames::read_frame_head` meets its contract: a count and an offset.
+-- Assumes nothing.
+use borrow.Author.Needs.{needs}
+use Prim.Native.Nat.{ℕ, _+_}
+use mathlib.Core.Path.{_≡_, sym}
+use mathlib.Core.List.{List}
+use native.Mathlib.Omega.{arith}
+use denote.Ref.{now}
+use borrow.Author.Tests.{leb-true}
+use mathlib.Core.Bool.{Bool}
+use lib.Dec.{leb}
+use Rattle.paper.specs.Refusals.{badCount}
+use Rattle.formats.proofs.Steps.{step, stop, Stepped}
+use Rattle.fields.specs.Integers.{strict}
+use Rattle.touch.specs.Limits.{mostContacts}
+use Rattle.touch.specs.Touch.{contactCount, offset, frameHead}
+use Rattle.touch.proofs.Reading.{first, passed}
+use Rattle.touch.proofs.frames.read_frame_head.Statement.{statement}
+use Rattle.touch.proofs.frames.read_frame_head.Tie as tie
+
+-- what is lent, and where the offset and the head's end are
+abbrev lent : tie.After-known-told → List ℕ
+lent c = now (c .before .before .before .before .before .args .rest)
+
+abbrev judged : tie.After-known-told → Bool
+judged c = c .before .before .before .before .before .args .judged
+
+abbrev at-offset : tie.After-known-told → ℕ
+at-offset c = c .before .got-count .given .0 .1 .0
+
+abbrev up : tie.After-known-told2 → tie.After-known-told
+up c = c .before .before .before .before .before
+
+abbrev at-end : tie.After-known-told2 → ℕ
+at-end c = at-offset (up c) + c .before .got-offset .given .0 .1 .0
+
+count-read : (c : tie.After-known-told) → Stepped (contactCount strict) (lent c) 0 (c .before .got-count .given .0 .0) (at-offset c)
+count-read c = first (contactCount strict) (lent c) _ _ (rw (c .before .got-count .given .1) at (c .before .before .before .read-count .ensures))
+
+offset-read : (c : tie.After-known-told2) → Stepped (offset strict (judged (up c))) (lent (up c)) (at-offset (up c)) (c .before .got-offset .given .0 .0) (at-end c)
+offset-read c =
+    step (offset strict (judged (up c))) (lent (up c)) (at-offset (up c)) _ _ (count-read (up c) .ends) (rw (c .before .got-offset .given .1) at (c .before .before .before .read-offset .ensures))
+
+read-count-requires : tie.Need-read-count-requires
+read-count-requires c κs = search needs
+
+enum-known-got-count : tie.Need-enum-known-got-count
+enum-known-got-count c = search needs
+
+enum-told : tie.Need-enum-told
+enum-told c = search needs
+
+refusal-requires : tie.Need-refusal-requires
+refusal-requires c κs = search needs
+
+returns : tie.Need-returns
+unfolding frameHead
+returns c =
+    let t = c .before .enum-told .given .1 in
+    let w = rw t at (c .before .before .before .read-count .ensures) in
+    record { same = rw (c .refusal .ensures, t, sym (w .same)); inside = omega arith }
+
+sub-read-offset : tie.Need-sub-read-offset
+sub-read-offset c = count-read c .ends
+
+part-read-offset-start : tie.Need-part-read-offset-start
+part-read-offset-start c = count-read c .ends
+
+part-read-offset-end : tie.Need-part-read-offset-end
+part-read-offset-end c = search needs
+
+read-offset-requires : tie.Need-read-offset-requires
+read-offset-requires c κs = search needs
+
+enum-known-got-offset : tie.Need-enum-known-got-offset
+enum-known-got-offset c = search needs
+
+enum-told-2 : tie.Need-enum-told-2
+enum-told-2 c = search needs
+
+refusal-requires-2 : tie.Need-refusal-requires-2
+refusal-requires-2 c κs = search needs
+
+returns-2 : tie.Need-returns-2
+unfolding frameHead
+returns-2 c =
+    let t = c .before .enum-told2 .given .1 in
+    let r = c .before .before .before in
+    let k = r .before .before in
+    let b = stop (offset strict (judged k)) (lent k) (at-offset k) _ _ (rw t at (r .read-offset .ensures)) in
+    record { same = rw (c .refusal2 .ensures, t, count-read k .reads, b); inside = omega arith }
+
+cast-t16 : tie.Need-cast-t16
+cast-t16 c =
+    let n = passed (strict .u2) (λ n. leb n mostContacts) badCount (lent (up c)) 0 _ _ (count-read (up c)) in
+    omega (arith, leb-true)
+
+add-t12 : tie.Need-add-t12
+add-t12 c = omega (arith, offset-read c .ends)
+
+returns-3 : tie.Need-returns-3
+unfolding frameHead
+returns-3 c = record { same = sym (rw (count-read (up c) .reads, offset-read c .reads)); inside = offset-read c .ends }
+
+pub read-frame-head-spec : {M : Type 1} → statement M
+read-frame-head-spec =
+    tie.close
+    (tie.spec
+    read-count-requires
+    enum-known-got-count
+    enum-told
+    refusal-requires
+    returns
+    sub-read-offset
+    part-read-offset-start
+    part-read-offset-end
+    read-offset-requires
+    enum-known-got-offset
+    enum-told-2
+    refusal-requires-2
+    returns-2
+    cast-t16
+    add-t12
+    returns-3)

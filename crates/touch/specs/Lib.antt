@@ -1,0 +1,4 @@
+-- The touch message.
+pub mod Limits
+pub mod Touch
+pub mod Answer

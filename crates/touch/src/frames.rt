@@ -1,0 +1,161 @@
+// Frames and the whole body: where they end, or the first fault.
+use crate::CheckedBody;
+use crate::End;
+use crate::ReadContact;
+use crate::ReadHead;
+use crate::ReadTouchHead;
+use crate::TouchHead;
+use crate::contact::read_contact;
+use house::Head;
+use integers::ReadU2;
+use integers::ReadU4;
+use integers::ReadU8;
+use paper::Microseconds;
+use paper::Milliseconds;
+ghost use lib.Dec.{leb};
+ghost use Rattle.paper.specs.Refusals.{badCount};
+ghost use Rattle.formats.specs.Answer.{Answers, skip};
+ghost use Rattle.formats.specs.Format.{such, series, times};
+ghost use Rattle.fields.specs.Integers.{strict};
+ghost use Rattle.fields.specs.Answer.{lengthOf, u2Got, u8Got};
+ghost use Rattle.integers.specs.Answer.{u2Of, u8Of};
+ghost use Rattle.touch.specs.Touch.{contact, offset, frameHead, frame, touchHead};
+ghost use Rattle.touch.specs.Answer.{headGot, headLength, touchHeadGot, touchHeadLength, endGot, endLength, Checks};
+
+// contactCount and frameCount: at most so many.
+fn read_count(rest: &[u8], most: u16) -> ReadU2
+    ensures { λ r. ⌜ Answers (such (strict .u2) (λ n. leb n most) badCount) (now (rest .entry)) (u2Got r (now (rest .entry))) (lengthOf (u2Of r)) ⌝ }
+{
+    let got = integers::read_u2(rest);
+    let ReadU2::Value(n, _) = got else {
+        return got;
+    };
+    if most < n {
+        return ReadU2::Refused(paper::BAD_COUNT);
+    }
+    got
+}
+
+// frameOffset: 0 where 11 is judged.
+fn read_offset(rest: &[u8], judged: bool) -> ReadU8
+    ensures { λ r. ⌜ Answers (offset strict judged) (now (rest .entry)) (u8Got r (now (rest .entry))) (lengthOf (u8Of r)) ⌝ }
+{
+    let got = integers::read_u8(rest);
+    let ReadU8::Value(o, _) = got else {
+        return got;
+    };
+    if judged {
+        if o == 0 {
+            return got;
+        }
+        return ReadU8::Refused(paper::BAD_OFFSET);
+    }
+    got
+}
+
+// What stands before a frame's contacts.
+pub fn read_frame_head(rest: &[u8], judged: bool) -> ReadHead
+    ensures { λ r. ⌜ Answers (frameHead strict judged) (now (rest .entry)) (headGot r (now (rest .entry))) (headLength r) ⌝ }
+{
+    let got_count = read_count(rest, 63);
+    let ReadU2::Value(count, at_offset) = got_count else {
+        return ReadHead::Refused(got_count.refusal());
+    };
+    let got_offset = read_offset(&rest[at_offset..], judged);
+    let ReadU8::Value(offset, n) = got_offset else {
+        return ReadHead::Refused(got_offset.refusal());
+    };
+    let found = Head {
+        count: count as u8,
+        offset: Microseconds(offset),
+    };
+    ReadHead::Value(found, at_offset + n)
+}
+
+// Where n contacts end, or the first fault.
+pub fn skip_contacts(rest: &[u8], n: usize) -> End
+    ensures { λ r. ⌜ Answers (skip (times n (contact strict))) (now (rest .entry)) (endGot r (now (rest .entry))) (endLength r) ⌝ }
+{
+    let mut at: usize = 0;
+    let mut left = n;
+    while 0 < left {
+        let got = read_contact(&rest[at..]);
+        let ReadContact::Value(_, k) = got else {
+            return End::Refused(got.refusal());
+        };
+        at += k;
+        left -= 1;
+    }
+    End::At(at)
+}
+
+// Where a frame ends, or its first fault.
+fn skip_frame(rest: &[u8], judged: bool) -> End
+    ensures { λ r. ⌜ Answers (skip (frame strict judged)) (now (rest .entry)) (endGot r (now (rest .entry))) (endLength r) ⌝ }
+{
+    let got_head = read_frame_head(rest, judged);
+    let ReadHead::Value(head, at) = got_head else {
+        return End::Refused(got_head.refusal());
+    };
+    let got_end = skip_contacts(&rest[at..], head.count as usize);
+    let End::At(n) = got_end else {
+        return got_end;
+    };
+    End::At(at + n)
+}
+
+// Where n frames end, or the first fault. 11 is judged on the first frame alone.
+fn skip_frames(rest: &[u8], n: usize, judged: bool) -> End
+    ensures { λ r. ⌜ Answers (skip (series (frame strict) judged n)) (now (rest .entry)) (endGot r (now (rest .entry))) (endLength r) ⌝ }
+{
+    let mut at: usize = 0;
+    let mut left = n;
+    let mut first = judged;
+    while 0 < left {
+        let got = skip_frame(&rest[at..], first);
+        let End::At(k) = got else {
+            return got;
+        };
+        at += k;
+        left -= 1;
+        first = false;
+    }
+    End::At(at)
+}
+
+// What stands before a message's frames.
+pub fn read_touch_head(rest: &[u8]) -> ReadTouchHead
+    ensures { λ r. ⌜ Answers (touchHead strict) (now (rest .entry)) (touchHeadGot r (now (rest .entry))) (touchHeadLength r) ⌝ }
+{
+    let got_time = integers::read_u4(rest);
+    let ReadU4::Value(time, at_count) = got_time else {
+        return ReadTouchHead::Refused(got_time.refusal());
+    };
+    let got_count = read_count(&rest[at_count..], 64);
+    let ReadU2::Value(count, n) = got_count else {
+        return ReadTouchHead::Refused(got_count.refusal());
+    };
+    let found = TouchHead {
+        time: Milliseconds(time),
+        frames: count as u8,
+    };
+    ReadTouchHead::Value(found, at_count + n)
+}
+
+// The whole body, judged to its last byte.
+pub fn check_body(rest: &[u8], judged: bool) -> CheckedBody
+    ensures { λ r. ⌜ Checks judged (now (rest .entry)) r ⌝ }
+{
+    let got_head = read_touch_head(rest);
+    let ReadTouchHead::Value(head, at) = got_head else {
+        return CheckedBody::Refused(got_head.refusal());
+    };
+    let got_end = skip_frames(&rest[at..], head.frames as usize, judged);
+    let End::At(n) = got_end else {
+        return CheckedBody::Refused(got_end.refusal());
+    };
+    if at + n < rest.len() {
+        return CheckedBody::Refused(paper::TRAILING);
+    }
+    CheckedBody::Body(head, at)
+}

@@ -1,0 +1,2 @@
+-- Text on a page.
+pub mod Page

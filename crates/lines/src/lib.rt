@@ -1,0 +1,73 @@
+// Lines of text on a lent page, so that a program writes many of them at once.
+ghost use mathlib.Core.Path.{_≡_};
+ghost use Prim.Native.Nat.{_<_, _≤_};
+ghost use mathlib.Core.List.{[], _∷_};
+ghost use Rattle.lines.specs.Page.{Added, AddedNumber, hexOf};
+ghost use Rattle.io.specs.Digits.{glyph as glyphOf};
+
+// Adds text at a place of a page, and answers the place after it; where there is no room the page stays as it was.
+pub fn add_text(page: &mut [u8], at: usize, text: &[u8]) -> usize
+    ensures { λ r. ⌜ Added (now (text .entry)) at r (now (page .entry)) (now (page .exit)) ⌝ }
+{
+    if page.len() < at {
+        return at;
+    }
+    let written = slices::lay(&mut page[at..], text);
+    at + written.bytes
+}
+
+// Adds one byte.
+pub fn add_byte(page: &mut [u8], at: usize, byte: u8) -> usize
+    ensures { λ r. ⌜ Added (byte ∷ []) at r (now (page .entry)) (now (page .exit)) ⌝ }
+{
+    if at < page.len() {
+        page[at] = byte;
+        return at + 1;
+    }
+    at
+}
+
+// Adds a number in decimal.
+pub fn add_number(page: &mut [u8], at: usize, n: u64) -> usize
+    ensures { λ r. ⌜ AddedNumber n at r (now (page .entry)) (now (page .exit)) ⌝ }
+{
+    let mut text = [0u8; 20];
+    let k = io::decimal(n, &mut text);
+    add_text(page, at, &text[..k])
+}
+
+// Adds a byte in hexadecimal, two digits.
+pub fn add_hex(page: &mut [u8], at: usize, byte: u8) -> usize
+    ensures { λ r. ⌜ Added (hexOf byte) at r (now (page .entry)) (now (page .exit)) ⌝ }
+{
+    let text = [glyph(byte / 16), glyph(byte % 16)];
+    add_text(page, at, &text)
+}
+
+// The digit of a number below 16, in ASCII and lower case.
+fn glyph(digit: u8) -> u8
+    requires { ⌜ digit < 16 ⌝ }
+    ensures { λ r. ⌜ r ≡ glyphOf digit ⌝ }
+{
+    if digit < 10 { 48 + digit } else { 87 + digit }
+}
+
+// Writes a page out up to a place within it, and answers the place to go on from: its beginning.
+pub fn write_out(page: &[u8], at: usize) -> usize
+    ensures { λ r. ⌜ r ≡ 0 ⌝ }
+{
+    if at <= page.len() {
+        io::write_all(libc::STDOUT_FILENO, &page[..at]);
+    }
+    0
+}
+
+// Writes a page out once it is half full, and answers the place to go on from.
+pub fn turn_over(page: &[u8], at: usize) -> usize
+    ensures { λ r. ⌜ r ≤ at ⌝ }
+{
+    if at < page.len() / 2 {
+        return at;
+    }
+    write_out(page, at)
+}

@@ -6,7 +6,7 @@ use mathlib.Core.Bool.{Bool}
 use mathlib.Core.List.{List, [], _∷_}
 use lib.ListN.{length}
 use Rattle.paper.specs.Refusals.{trailing}
-use Rattle.formats.specs.Format.{Got, got, bad, andThen, series, readSeries, times, ended}
+use Rattle.formats.specs.Format.{Got, got, bad, andThen, series, times, ended}
 use Rattle.formats.specs.Answer.{skip, skipped}
 use Rattle.formats.proofs.Laws.{series-length}
 use Rattle.formats.proofs.Steps.{skipped-made}
@@ -14,7 +14,7 @@ use Rattle.fields.specs.Integers.{strict}
 use Rattle.house.specs.declared.Head.{Head}
 use Rattle.house.specs.declared.Contact.{Contact}
 use Rattle.touch.specs.declared.TouchHead.{TouchHead}
-use Rattle.touch.specs.Touch.{Frame, Touch, contact, frameHead, frame, touchHead, touch, body}
+use Rattle.touch.specs.Touch.{Frame, contact, frameHead, frame, touchHead, touch, body}
 use Rattle.touch.specs.Answer.{summary}
 
 pub frame-end : (judged : Bool) (l : List ℕ) (h : Head) (t : List ℕ) → frameHead strict judged .read l ≡ got h t

@@ -2,7 +2,7 @@
 -- integers are strict it is written back to the same bytes.
 -- Assumes nothing.
 use Prim.Native.Nat.{ℕ}
-use mathlib.Core.Path.{_≡_, refl, ap}
+use mathlib.Core.Path.{_≡_, ap}
 use mathlib.Core.Bool.{Bool, true, false}
 use lib.ListN.{length}
 use Rattle.formats.specs.Format.{Each}
@@ -11,7 +11,7 @@ use Rattle.fields.specs.Integers.{Integers, strict}
 use Rattle.fields.proofs.Laws.{IntegersLaw, strict-law}
 use Rattle.house.specs.WellFormed.{has}
 use Rattle.house.specs.Fits.{noSides}
-use Rattle.touch.specs.Touch.{Frame, Touch, optionalOf, headOf, touchHeadOf, present, point, flags, sides, orientation, pressure, optional, contact, contactCount, offset, frameHead, frame, frameCount, touchHead, touch}
+use Rattle.touch.specs.Touch.{Frame, Touch, optionalOf, headOf, touchHeadOf, present, point, flags, sides, orientation, pressure, optional, contact, offset, frameHead, frame, frameCount, touchHead, touch}
 use Rattle.house.specs.declared.Head.{Head}
 use Rattle.touch.specs.declared.TouchHead.{TouchHead}
 

@@ -93,13 +93,28 @@ pub next-got : {A : Type 0} (f : Bool → Format A) (first : Bool) (k : ℕ) (l 
 next-got f first zero l s t h e = absurd (omega arith)
 next-got f first (suc k) l s t h e = rw sub-one (more-got f first k l s t e)
 
+-- and of one whose values are known
+pub record Next {A : Type 0} (f : Bool → Format A) (first : Bool) (k : ℕ) (l : List ℕ) (a : A) (s : List A) (t : List ℕ) : Type 0 where
+  pub after : List ℕ
+  pub one : f first .read l ≡ got a after
+  pub others : readSeries (λ b. f b .read) false k after ≡ got s t
+
+pub cons-got : {A : Type 0} (f : Bool → Format A) (first : Bool) (k : ℕ) (l : List ℕ) (a : A) (s : List A) (t : List ℕ) → readSeries (λ b. f b .read) first (suc k) l ≡ got (a ∷ s) t
+    → Next f first k l a s t
+cons-got {A} f first k l a s t e =
+    let m = more-got f first k l (a ∷ s) t e in
+    let all = m .all in
+    let p : m .head ≡ a = cc in
+    let q : m .rest ≡ s = cc in
+    record { after = m .after; one = m .one ∙ ap (λ (x : A). got x (m .after)) p; others = m .others ∙ ap (λ (x : List A). got x t) q }
+
 -- ---- 11 judged or not
 
 offset-freed : (b : Bool) (l : List ℕ) (o : ℕ) (t : List ℕ) → offset strict b .read l ≡ got o t → strict .u8 .read l ≡ got o t
 offset-freed true l o t e = such-got (strict .u8) (λ o. eqb o 0) badOffset l o t e .0
 offset-freed false l o t e = e
 
-head-freed : (b : Bool) (l : List ℕ) (h : Head) (t : List ℕ) → frameHead strict b .read l ≡ got h t → frameHead strict false .read l ≡ got h t
+pub head-freed : (b : Bool) (l : List ℕ) (h : Head) (t : List ℕ) → frameHead strict b .read l ≡ got h t → frameHead strict false .read l ≡ got h t
 unfolding frameHead
 head-freed b l h t e = go (contactCount strict .read l) e
   where

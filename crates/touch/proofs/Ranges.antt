@@ -3,16 +3,16 @@
 use Prim.Native.Nat.{ℕ, suc, _*_, _^_, _<_, _≤_}
 use mathlib.Core.Path.{_≡_, refl}
 use mathlib.Core.Bool.{Bool, true, false}
-use mathlib.Core.List.{List, [], _∷_}
+use mathlib.Core.List.{List}
 use native.Mathlib.Omega.{arith}
 use borrow.Author.Tests.{ltb-true, leb-true, lt-ltb}
-use lib.Dec.{ltb, leb, lit≤}
+use lib.Dec.{leb, lit≤}
 use lib.IntN.{ℤ, pos, negsuc}
 use lib.ListN.{length}
 use Rattle.paper.specs.Refusals.{badRange}
 use Rattle.digits.specs.Digits.{Bytes}
 use Rattle.states.proofs.Rule.{listed-small}
-use Rattle.formats.specs.Format.{Got, got, HoldsWhen, such}
+use Rattle.formats.specs.Format.{got, HoldsWhen, such}
 use Rattle.integers.specs.Answer.{size}
 use Rattle.integers.specs.Integer.{limit}
 use Rattle.fields.specs.Integers.{strict}

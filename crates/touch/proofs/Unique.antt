@@ -10,8 +10,6 @@ use Rattle.formats.specs.Format.{Got, got, bad, Format, times}
 use Rattle.formats.specs.Answer.{Answers, skip}
 use Rattle.formats.proofs.Laws.{never}
 use Rattle.fields.specs.Integers.{strict}
-use Rattle.house.specs.declared.Head.{Head}
-use Rattle.house.specs.declared.Contact.{Contact}
 use Rattle.touch.specs.declared.TouchHead.{TouchHead}
 use Rattle.touch.specs.declared.ReadContact.{ReadContact}
 use Rattle.touch.specs.declared.ReadContact.the-variants as ReadContact

@@ -2,7 +2,7 @@
 -- Assumes nothing.
 use borrow.Author.Needs.{needs}
 use Prim.Native.Nat.{ℕ, _+_}
-use mathlib.Core.Path.{_≡_, sym}
+use mathlib.Core.Path.{sym}
 use mathlib.Core.List.{List}
 use native.Mathlib.Omega.{arith}
 use denote.Ref.{now}
@@ -11,7 +11,6 @@ use mir.Val.{SFits}
 use mir.Facts.{toZ-ofZ}
 use lib.ListN.{drop}
 use Rattle.formats.specs.Format.{got}
-use Rattle.formats.specs.Answer.{Answers}
 use Rattle.formats.proofs.Steps.{step, stop, Stepped}
 use Rattle.fields.specs.Integers.{strict}
 use Rattle.fields.proofs.Answers.{s4-answers}

@@ -3,6 +3,7 @@
 use borrow.Author.Needs.{needs}
 use borrow.Author.Tests.{lt-ltb, le-ltb}
 use mathlib.Core.Path.{ap}
+use native.Mathlib.Omega.{arith}
 use denote.Ref.{now}
 use lib.Dec.{ltb}
 use Rattle.paper.specs.Refusals.{badField}
@@ -29,13 +30,13 @@ returns-2 : tie.Need-returns-2
 returns-2 c =
     let k = c .before .before in
     let r = k .before .before in
-    test-fails 1 (λ p. ltb p 8) badField (now (r .before .before .args .rest)) _ (r .read-u2 .ensures) _ _ _ (ap u2Of (k .got .given .1)) (le-ltb _ _ (c .if1 .taken))
+    test-fails 1 (λ p. ltb p 8) badField (now (r .before .before .args .rest)) _ (r .read-u2 .ensures) _ _ _ (ap u2Of (k .got .given .1)) (le-ltb (k .got .given .0 .0) 8 (omega arith))
 
 returns-3 : tie.Need-returns-3
 returns-3 c =
     let k = c .before .before in
     let r = k .before .before in
-    test-holds 1 (λ p. ltb p 8) badField (now (r .before .before .args .rest)) _ (r .read-u2 .ensures) _ _ _ (ap u2Of (k .got .given .1)) (lt-ltb _ _ (c .if1 .left))
+    test-holds 1 (λ p. ltb p 8) badField (now (r .before .before .args .rest)) _ (r .read-u2 .ensures) _ _ _ (ap u2Of (k .got .given .1)) (lt-ltb (k .got .given .0 .0) 8 (omega arith))
 
 pub read-present-spec : {M : Type 1} → statement M
 read-present-spec =

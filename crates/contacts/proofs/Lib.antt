@@ -1,0 +1,9 @@
+-- Laws of the table of contacts, of frames that conform, and of what becomes of frames.
+pub mod Table
+pub mod Conforms
+pub mod Machine
+pub mod Seen
+pub mod Reading
+pub mod Signed
+pub mod Judgement
+pub mod Unique

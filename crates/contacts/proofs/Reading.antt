@@ -1,0 +1,90 @@
+-- The contacts that a loop reads one after the other: what is said of those that are left is what is said of all.
+-- Assumes nothing.
+use Prim.Native.Nat.{ℕ, zero, suc, _+_, _-_, _≤_, _<_}
+use mathlib.Core.Path.{_≡_, refl, sym, ap, _∙_}
+use mathlib.Core.Bool.{Bool, true, false}
+use mathlib.Core.List.{List, [], _∷_}
+use native.Mathlib.Numerals.{sub-one}
+use native.Mathlib.Omega.{arith}
+use lib.ListN.{length, drop}
+use borrow.Author.Tests.{lt-ltb}
+use Rattle.digits.specs.Digits.{Bytes}
+use Rattle.formats.specs.Format.{Got, got, bad, andThen, readSeries, Each}
+use Rattle.formats.proofs.Laws.{times-law}
+use Rattle.formats.proofs.Steps.{Stepped, series-end, series-bad}
+use Rattle.fields.specs.Integers.{strict}
+use Rattle.fields.proofs.Laws.{strict-law}
+use Rattle.house.specs.declared.Contact.{Contact}
+use Rattle.touch.specs.Touch.{contact}
+use Rattle.touch.proofs.Laws.{contact-law}
+use Rattle.contacts.specs.Table.{contacts}
+use Rattle.contacts.specs.Conforms.{every}
+use Rattle.contacts.specs.Machine.{isDown, opening}
+use Rattle.contacts.specs.Ruling.{contactsOf, ofRead}
+use Rattle.contacts.proofs.Conforms.{inTable}
+
+module _ {A : Type 0} (z : A) (f : List Contact → A) where
+  pub read-end : (k : ℕ) (l : List ℕ) → k ≤ 0 → ofRead z f (contactsOf k l) ≡ f []
+  read-end k l h = ap (ofRead z f) (series-end (λ b. contact strict .read) false k l h)
+
+  pub read-bad : (k : ℕ) (l : List ℕ) (e : ℕ) → 0 < k → contact strict .read l ≡ bad e → ofRead z f (contactsOf k l) ≡ z
+  read-bad k l e h w = ap (ofRead z f) (series-bad (λ b. contact strict .read) false k l e h w)
+
+  -- a contact and the others: g says of the others what f says of all
+  front : (g : List Contact → A) (c : Contact) → ((cs : List Contact) → f (c ∷ cs) ≡ g cs) → (x : Got (List Contact))
+      → ofRead z f (andThen x (λ cs u. got (c ∷ cs) u)) ≡ ofRead z g x
+  front g c h (got cs t) = h cs
+  front g c h (bad e) = refl
+
+  pub read-on : (g : List Contact → A) (k at next : ℕ) (s : List ℕ) (c : Contact) → 0 < k → Stepped (contact strict) s at c next
+      → ((cs : List Contact) → f (c ∷ cs) ≡ g cs) → ofRead z f (contactsOf k (drop at s)) ≡ ofRead z g (contactsOf (k - 1) (drop next s))
+  unfolding readSeries
+  read-on g zero at next s c h w e = absurd (omega arith)
+  read-on g (suc k) at next s c h w e = rw (w .reads, sub-one) (front g c e (contactsOf k (drop next s)))
+
+  -- the contact decides
+  settled : (x : Got (List Contact)) → ofRead z (λ cs. z) x ≡ z
+  settled (got cs t) = refl
+  settled (bad e) = refl
+
+  pub read-off : (k at next : ℕ) (s : List ℕ) (c : Contact) → 0 < k → Stepped (contact strict) s at c next
+      → ((cs : List Contact) → f (c ∷ cs) ≡ z) → ofRead z f (contactsOf k (drop at s)) ≡ z
+  read-off k at next s c h w e = read-on (λ cs. z) k at next s c h w e ∙ settled (contactsOf (k - 1) (drop next s))
+
+-- two tests that agree
+pub read-same : {A : Type 0} (z : A) (f g : List Contact → A) → ((cs : List Contact) → f cs ≡ g cs) → (x : Got (List Contact)) → ofRead z f x ≡ ofRead z g x
+read-same z f g h (got cs t) = h cs
+read-same z f g h (bad e) = refl
+
+-- a frame of at least one contact is opening where each is down
+pub read-opening : (n : ℕ) (l : List ℕ) → 0 < n → ofRead false opening (contactsOf n l) ≡ ofRead false (every isDown) (contactsOf n l)
+unfolding readSeries opening
+read-opening zero l h = absurd (omega arith)
+read-opening (suc n) l h = go (contact strict .read l)
+  where
+    on : (c : Contact) (x : Got (List Contact)) → ofRead false opening (andThen x (λ cs u. got (c ∷ cs) u)) ≡ ofRead false (every isDown) (andThen x (λ cs u. got (c ∷ cs) u))
+    on c (got cs t) = refl
+    on c (bad e) = refl
+
+    go : (x : Got Contact) → ofRead false opening (andThen x (λ c t. andThen (contactsOf n t) (λ cs u. got (c ∷ cs) u))) ≡ ofRead false (every isDown) (andThen x (λ c t. andThen (contactsOf n t) (λ cs u. got (c ∷ cs) u)))
+    go (got c t) = on c (contactsOf n t)
+    go (bad e) = refl
+
+pub read-none : (n : ℕ) (l : List ℕ) → n ≡ 0 → ofRead false opening (contactsOf n l) ≡ false
+unfolding opening
+read-none n l h = read-end false opening n l (omega arith)
+
+-- ids are bytes
+ids-in : (n : ℕ) (cs : List Contact) → Each (λ b. contact strict .Holds) false n cs → every inTable cs ≡ true
+unfolding Each every contact
+ids-in zero [] h = refl
+ids-in zero (c ∷ cs) h = absurd h
+ids-in (suc n) [] h = absurd h
+ids-in (suc n) (c ∷ cs) h = rw (lt-ltb (c .id) contacts (h .0 .0)) (ids-in n cs (h .1))
+
+pub read-ids : (n : ℕ) (l : List ℕ) → Bytes l → ofRead true (every inTable) (contactsOf n l) ≡ true
+read-ids n l hl = go (contactsOf n l) refl
+  where
+    go : (x : Got (List Contact)) → contactsOf n l ≡ x → ofRead true (every inTable) x ≡ true
+    go (got cs t) w = ids-in n cs (times-law (contact strict) n (contact-law strict strict-law) .sound l cs t hl w .0)
+    go (bad e) w = refl

@@ -1,0 +1,130 @@
+-- `contacts::rules::ids_distinct` meets its contract. The loop keeps: the ids that are left are new and distinct where all of them are distinct.
+-- Assumes nothing.
+use borrow.Author.Needs.{needs}
+use Prim.Native.Nat.{_≤_, _+_}
+use mathlib.Core.Path.{_≡_, refl, sym, _∙_}
+use mathlib.Core.Bool.{true, false}
+use native.Mathlib.Omega.{arith}
+use lib.ListN.{length, drop, length-set}
+use Rattle.formats.proofs.Steps.{step, stop, Stepped}
+use Rattle.fields.specs.Integers.{strict}
+use Rattle.touch.specs.Touch.{contact}
+use Rattle.contacts.specs.Conforms.{distinct}
+use Rattle.contacts.specs.Ruling.{contactsOf, ofRead}
+use Rattle.contacts.proofs.Seen.{clear, clear-start, clear-on, clear-off, clear-end}
+use Rattle.contacts.proofs.Reading.{read-same, read-end, read-bad, read-on, read-off}
+use Rattle.contacts.proofs.rules.ids_distinct.Statement.{statement}
+use Rattle.contacts.proofs.rules.ids_distinct.Tie as tie
+
+abbrev Inv-loop : tie.InvT-loop
+Inv-loop rest n seen₀ at₀ left₀ seen at left =
+    (at ≤ length rest) × (length seen ≡ 256) × (ofRead false (clear seen) (contactsOf left (drop at rest)) ≡ ofRead false distinct (contactsOf n rest))
+
+abbrev μ-loop : tie.MeasureT-loop
+μ-loop rest n seen₀ at₀ left₀ seen at left = left
+
+-- the contact of this turn
+this : (c : tie.After-known-told Inv-loop μ-loop) →
+    let p = c .before .before .before .before .before .before in
+    Stepped (contact strict) (p .before .before .args .rest .now) (p .loop .at) (c .before .got .given .0 .0) (p .loop .at + c .before .got .given .0 .1 .0)
+this c =
+    let r = c .before .before .before in
+    let p = r .before .before .before in
+    step (contact strict) (p .before .before .args .rest .now) (p .loop .at) _ _ (p .loop .inv .0) (rw (c .before .got .given .1) at (r .read-contact .ensures))
+
+loop-holds : tie.Need-loop-holds Inv-loop μ-loop
+loop-holds c = (omega arith, refl, read-same false _ _ (clear-start 256) (contactsOf (c .before .args .n) (c .before .args .rest .now)))
+
+sub-read-contact : tie.Need-sub-read-contact Inv-loop μ-loop
+sub-read-contact c = search needs
+
+part-read-contact-start : tie.Need-part-read-contact-start Inv-loop μ-loop
+part-read-contact-start c = search needs
+
+part-read-contact-end : tie.Need-part-read-contact-end Inv-loop μ-loop
+part-read-contact-end c = search needs
+
+read-contact-requires : tie.Need-read-contact-requires Inv-loop μ-loop
+read-contact-requires c κs = search needs
+
+enum-known-got : tie.Need-enum-known-got Inv-loop μ-loop
+enum-known-got c = search needs
+
+enum-told : tie.Need-enum-told Inv-loop μ-loop
+enum-told c = search needs
+
+returns : tie.Need-returns Inv-loop μ-loop
+returns c =
+    let r = c .before .before in
+    let p = r .before .before .before in
+    let a = p .before .before .args in
+    let b = stop (contact strict) (a .rest .now) (p .loop .at) _ _ (rw (c .enum-told .given .1) at (r .read-contact .ensures)) in
+    sym (read-bad false (clear (p .loop .seen)) (p .loop .left) _ _ (r .before .before .loop-test .taken) b) ∙ p .loop .inv .2
+
+cast-i : tie.Need-cast-i Inv-loop μ-loop
+cast-i c = search needs
+
+array-read-if1 : tie.Need-array-read-if1 Inv-loop μ-loop
+array-read-if1 c = search needs
+
+returns-2 : tie.Need-returns-2 Inv-loop μ-loop
+returns-2 c =
+    let k = c .before .before in
+    let r = k .before .before .before in
+    let p = r .before .before .before in
+    let a = p .before .before .args in
+    let off = clear-off (p .loop .seen) (k .before .got .given .0 .0) (c .if1 .taken) in
+    sym (read-off false (clear (p .loop .seen)) (p .loop .left) (p .loop .at) _ (a .rest .now) _ (r .before .before .loop-test .taken) (this k) off) ∙ p .loop .inv .2
+
+array-write-seen : tie.Need-array-write-seen Inv-loop μ-loop
+array-write-seen c = search needs
+
+add-at : tie.Need-add-at Inv-loop μ-loop
+add-at c = omega (arith, this (c .before .before) .ends)
+
+sub-left : tie.Need-sub-left Inv-loop μ-loop
+sub-left c = search needs
+
+loop-less : tie.Need-loop-less Inv-loop μ-loop
+loop-less c = search needs
+
+loop-again : tie.Need-loop-again Inv-loop μ-loop
+loop-again c =
+    let k = c .before .before in
+    let r = k .before .before .before in
+    let p = r .before .before .before in
+    let a = p .before .before .args in
+    let on = clear-on (p .loop .seen) (k .before .got .given .0 .0) (omega arith) (c .if1 .left) in (
+      this k .ends,
+      simp length-set (p .loop .inv .1),
+      sym (read-on false (clear (p .loop .seen)) _ (p .loop .left) (p .loop .at) _ (a .rest .now) _ (r .before .before .loop-test .taken) (this k) on) ∙ p .loop .inv .2,
+    )
+
+returns-3 : tie.Need-returns-3 Inv-loop μ-loop
+returns-3 c =
+    let p = c .before in
+    sym (clear-end (p .loop .seen)) ∙ sym (read-end false (clear (p .loop .seen)) (p .loop .left) _ (c .loop-test .left)) ∙ p .loop .inv .2
+
+pub ids-distinct-spec : {M : Type 1} → statement M
+ids-distinct-spec =
+    tie.close
+    (tie.spec
+    Inv-loop
+    μ-loop
+    loop-holds
+    sub-read-contact
+    part-read-contact-start
+    part-read-contact-end
+    read-contact-requires
+    enum-known-got
+    enum-told
+    returns
+    cast-i
+    array-read-if1
+    returns-2
+    array-write-seen
+    add-at
+    sub-left
+    loop-less
+    loop-again
+    returns-3)

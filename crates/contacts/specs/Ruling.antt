@@ -1,0 +1,104 @@
+-- What the code answers for a frame: of the contacts as they are read from a message, and of a table as it is lent.
+use Prim.Native.Nat.{ℕ, _+_, _≤_}
+use mathlib.Core.Path.{_≡_}
+use mathlib.Core.Bool.{Bool, true, false, cond}
+use mathlib.Core.List.{List, [], _∷_}
+use lib.Dec.{leb}
+use lib.IntN.{ℤ}
+use lib.ListN.{length, getD, take}
+use Rattle.formats.specs.Format.{Got, got, bad, times}
+use Rattle.fields.specs.Integers.{strict}
+use Rattle.states.specs.Table.{out, next}
+use Rattle.house.specs.declared.Contact.{Contact}
+use Rattle.touch.specs.Touch.{contact}
+use Rattle.contacts.specs.Table.{Table, contacts, active, one, countActive}
+use Rattle.contacts.specs.Conforms.{Rules, legal, stays, after, conforms}
+use Rattle.contacts.specs.Machine.{Machine, Verdict, injected, ignored, cancelled, verdict}
+use Rattle.contacts.specs.declared.Change.{Change}
+use Rattle.contacts.specs.declared.Judged.{Judged}
+use Rattle.contacts.specs.declared.Ruling.{Ruling}
+use Rattle.contacts.specs.declared.Ruling.the-variants as Ruling
+
+-- the n contacts at the front of a list of bytes
+abbrev pub contactsOf : ℕ → List ℕ → Got (List Contact)
+contactsOf n l = times n (contact strict) .read l
+
+-- what is said of the contacts that are read, and z where they are not all there
+abbrev pub ofRead : {A : Type 0} → A → (List Contact → A) → Got (List Contact) → A
+ofRead z f (got cs t) = f cs
+ofRead z f (bad e) = z
+
+abbrev pub tableOf : List ℕ → List ℤ → List ℤ → Table
+tableOf states xs ys = record { states = states; xs = xs; ys = ys }
+
+-- document 01's table, and so many contacts at most
+abbrev pub rulesOf : ℕ → Rules
+rulesOf most = record { next = next; most = most }
+
+-- the rules of one contact, over the arrays that each looks at
+abbrev pub legalIn : List ℕ → Contact → Bool
+legalIn states = legal (rulesOf 0) (tableOf states [] [])
+
+abbrev pub staysIn : List ℤ → List ℤ → Contact → Bool
+staysIn xs ys = stays (tableOf [] xs ys)
+
+-- ---- how a frame changes the number of active contacts
+
+-- how many of its contacts are active after their own step from these states, and how many were before it
+unfoldable pub came : (ℕ → ℕ → ℕ) → List ℕ → List Contact → ℕ
+came step states [] = 0
+came step states (c ∷ cs) = one (active (step (c .flags) (getD states (c .id) out))) + came step states cs
+
+unfoldable pub gone : List ℕ → List Contact → ℕ
+gone states [] = 0
+gone states (c ∷ cs) = one (active (getD states (c .id) out)) + gone states cs
+
+-- the change by a frame whose contacts are read as x
+pub record Changes (states : List ℕ) (x : Got (List Contact)) (r : Change) : Type 0 where
+  pub came : r .came ≡ ofRead 0 (came next states) x
+  pub gone : r .gone ≡ ofRead 0 (gone states) x
+
+-- the answer of a count: of 256 states, as many as a table has
+pub record Counts (states : List ℕ) (r : ℕ) : Type 0 where
+  pub same : r ≡ countActive (take contacts states)
+  pub small : r ≤ contacts
+
+-- the number of active contacts, given beside the 256 states
+pub record Counted (active : ℕ) (states : List ℕ) : Type 0 where
+  pub all : length states ≡ contacts
+  pub same : active ≡ countActive states
+
+-- ---- the answers
+
+-- a frame that does not conform
+abbrev pub refused : Judged
+refused = record { conforms = false; active = 0 }
+
+-- so many active contacts, where they are not too many
+abbrev pub judgedAs : ℕ → ℕ → Judged
+judgedAs most k = cond (leb k most) (record { conforms = true; active = k }) refused
+
+-- whether a frame conforms, and how many contacts are active after it if it does
+unfoldable pub judgedOf : Rules → Table → List Contact → Judged
+judgedOf rules t cs = cond (conforms rules t cs) (record { conforms = true; active = countActive (after rules t cs .states) }) refused
+
+-- a verdict, with the number of active contacts after an injected frame
+abbrev pub rulingAs : Verdict → ℕ → Ruling
+rulingAs injected k = Ruling.Injected k
+rulingAs ignored k = Ruling.Ignored
+rulingAs cancelled k = Ruling.Cancelled
+
+unfoldable pub rulingOf : Rules → Machine → List Contact → Ruling
+rulingOf rules m cs = rulingAs (verdict rules m cs) (countActive (after rules (m .table) cs .states))
+
+-- contacts that cannot be read conform to nothing and open nothing
+abbrev pub unread : Bool → Ruling
+unread running = cond running Ruling.Cancelled Ruling.Ignored
+
+-- ---- the promises, of contacts that are read as x; the number of active contacts is to be the table's
+
+abbrev pub Judges : Table → ℕ → ℕ → Got (List Contact) → Judged → Type 0
+Judges t most active x r = Counted active (t .states) → r ≡ ofRead refused (judgedOf (rulesOf most) t) x
+
+abbrev pub Decides : Machine → ℕ → ℕ → Got (List Contact) → Ruling → Type 0
+Decides m most active x r = Counted active (m .table .states) → r ≡ ofRead (unread (m .running)) (rulingOf (rulesOf most) m) x

@@ -1,0 +1,94 @@
+// A frame judged, and what becomes of it.
+use crate::Change;
+use crate::Judged;
+use crate::Ruling;
+use crate::counts::change_by;
+use crate::rules;
+ghost use mathlib.Core.Path.{_≡_};
+ghost use mathlib.Core.Bool.{true, false, cond};
+ghost use Prim.Native.Nat.{_+_, _-_, _≤_};
+ghost use Rattle.contacts.specs.Machine.{opening};
+ghost use Rattle.contacts.specs.Ruling.{contactsOf, ofRead, tableOf, judgedAs, Judges, Decides};
+
+// At most so many contacts are active after the frame.
+fn settle(change: Change, active: u16, most: u16) -> Judged
+    ensures { λ r. ⌜ (change .gone ≤ active + change .came → r ≡ judgedAs most (active + change .came - change .gone)) ⌝ }
+{
+    let came = active as u32 + change.came as u32;
+    let gone = change.gone as u32;
+    if came < gone {
+        return Judged {
+            conforms: false,
+            active: 0,
+        };
+    }
+    let after = came - gone;
+    if after <= most as u32 {
+        return Judged {
+            conforms: true,
+            active: after as u16,
+        };
+    }
+    Judged {
+        conforms: false,
+        active: 0,
+    }
+}
+
+// Whether a frame of n contacts conforms, of a table with so many active contacts.
+pub fn judge(
+    rest: &[u8],
+    n: u16,
+    states: &[u8; 256],
+    xs: &[i32; 256],
+    ys: &[i32; 256],
+    most: u16,
+    active: u16,
+) -> Judged
+    ensures { λ r. ⌜ Judges (tableOf (now (states .entry)) (now (xs .entry)) (now (ys .entry))) most active (contactsOf n (now (rest .entry))) r ⌝ }
+{
+    if rules::ids_distinct(rest, n) {
+        if rules::all_legal(rest, n, states) {
+            if rules::all_stay(rest, n, xs, ys) {
+                return settle(change_by(rest, n, states), active, most);
+            }
+        }
+    }
+    Judged {
+        conforms: false,
+        active: 0,
+    }
+}
+
+// Whether a frame of n contacts is judged at all: running, or opening.
+fn is_judged(running: bool, rest: &[u8], n: u16) -> bool
+    ensures { λ r. ⌜ r ≡ cond running true (ofRead false opening (contactsOf n (now (rest .entry)))) ⌝ }
+{
+    if running {
+        return true;
+    }
+    rules::is_opening(rest, n)
+}
+
+// What becomes of a frame of n contacts, running or ignoring.
+pub fn verdict_of(
+    running: bool,
+    rest: &[u8],
+    n: u16,
+    states: &[u8; 256],
+    xs: &[i32; 256],
+    ys: &[i32; 256],
+    most: u16,
+    active: u16,
+) -> Ruling
+    ensures { λ r. ⌜ Decides (record { table = tableOf (now (states .entry)) (now (xs .entry)) (now (ys .entry)); running = running }) most active (contactsOf n (now (rest .entry))) r ⌝ }
+{
+    if is_judged(running, rest, n) {
+        let judged = judge(rest, n, states, xs, ys, most, active);
+        if judged.conforms {
+            return Ruling::Injected(judged.active);
+        }
+        return Ruling::Cancelled;
+    }
+    Ruling::Ignored
+}

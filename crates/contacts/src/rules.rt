@@ -1,0 +1,155 @@
+// The rules that the contacts of a frame obey: one loop for each.
+use house::Contact;
+use house::Point;
+use touch::ReadContact;
+ghost use mathlib.Core.Path.{_≡_};
+ghost use mathlib.Core.Bool.{false};
+ghost use mathlib.Core.List.{[]};
+ghost use Rattle.contacts.specs.Table.{placeAt};
+ghost use Rattle.contacts.specs.Conforms.{every, distinct, lifts, sameNumber, samePlace};
+ghost use Rattle.contacts.specs.Machine.{isDown, opening};
+ghost use Rattle.contacts.specs.Ruling.{contactsOf, ofRead, tableOf, legalIn, staysIn};
+
+// No id is in the frame twice.
+pub(crate) fn ids_distinct(rest: &[u8], n: u16) -> bool
+    ensures { λ r. ⌜ r ≡ ofRead false distinct (contactsOf n (now (rest .entry))) ⌝ }
+{
+    let mut seen = [false; 256];
+    let mut at: usize = 0;
+    let mut left = n;
+    while 0 < left {
+        let got = touch::read_contact(&rest[at..]);
+        let ReadContact::Value(contact, k) = got else {
+            return false;
+        };
+        let i = contact.id as usize;
+        if seen[i] {
+            return false;
+        }
+        seen[i] = true;
+        at += k;
+        left -= 1;
+    }
+    true
+}
+
+// Whether a contact's flags lead to a state from the one that it has.
+fn is_legal(contact: Contact, states: &[u8; 256]) -> bool
+    ensures { λ r. ⌜ r ≡ legalIn (now (states .entry)) contact ⌝ }
+{
+    let i = contact.id as usize;
+    states::next_state(contact.flags, states[i]) != states::ILLEGAL
+}
+
+// Each contact is legal from its state before the frame.
+pub(crate) fn all_legal(rest: &[u8], n: u16, states: &[u8; 256]) -> bool
+    ensures { λ r. ⌜ r ≡ ofRead false (every (legalIn (now (states .entry)))) (contactsOf n (now (rest .entry))) ⌝ }
+{
+    let mut at: usize = 0;
+    let mut left = n;
+    while 0 < left {
+        let got = touch::read_contact(&rest[at..]);
+        let ReadContact::Value(contact, k) = got else {
+            return false;
+        };
+        if is_legal(contact, states) {
+            at += k;
+            left -= 1;
+        } else {
+            return false;
+        }
+    }
+    true
+}
+
+// Flags with which the position must be the stored one.
+fn is_lift(flags: u8) -> bool
+    ensures { λ r. ⌜ r ≡ lifts flags ⌝ }
+{
+    match flags {
+        0x0C => true,
+        0x04 => true,
+        0x24 => true,
+        _ => false,
+    }
+}
+
+fn same_number(a: i32, b: i32) -> bool
+    ensures { λ r. ⌜ r ≡ sameNumber a b ⌝ }
+{
+    a == b
+}
+
+// Whether a position is the stored one of an id.
+fn is_stored(place: Point, id: u8, xs: &[i32; 256], ys: &[i32; 256]) -> bool
+    ensures { λ r. ⌜ r ≡ samePlace place (placeAt (tableOf [] (now (xs .entry)) (now (ys .entry))) id) ⌝ }
+{
+    let i = id as usize;
+    if same_number(place.x, xs[i]) {
+        return same_number(place.y, ys[i]);
+    }
+    false
+}
+
+// Whether a contact obeys the rule of positions.
+fn is_in_place(contact: Contact, xs: &[i32; 256], ys: &[i32; 256]) -> bool
+    ensures { λ r. ⌜ r ≡ staysIn (now (xs .entry)) (now (ys .entry)) contact ⌝ }
+{
+    if is_lift(contact.flags) {
+        let place = contact.place;
+        return is_stored(place, contact.id, xs, ys);
+    }
+    true
+}
+
+// Positions obey the rule.
+pub(crate) fn all_stay(rest: &[u8], n: u16, xs: &[i32; 256], ys: &[i32; 256]) -> bool
+    ensures { λ r. ⌜ r ≡ ofRead false (every (staysIn (now (xs .entry)) (now (ys .entry)))) (contactsOf n (now (rest .entry))) ⌝ }
+{
+    let mut at: usize = 0;
+    let mut left = n;
+    while 0 < left {
+        let got = touch::read_contact(&rest[at..]);
+        let ReadContact::Value(contact, k) = got else {
+            return false;
+        };
+        if is_in_place(contact, xs, ys) {
+            at += k;
+            left -= 1;
+        } else {
+            return false;
+        }
+    }
+    true
+}
+
+// Each contact has 0x19.
+fn all_down(rest: &[u8], n: u16) -> bool
+    ensures { λ r. ⌜ r ≡ ofRead false (every isDown) (contactsOf n (now (rest .entry))) ⌝ }
+{
+    let mut at: usize = 0;
+    let mut left = n;
+    while 0 < left {
+        let got = touch::read_contact(&rest[at..]);
+        let ReadContact::Value(contact, k) = got else {
+            return false;
+        };
+        if contact.flags == 0x19 {
+            at += k;
+            left -= 1;
+        } else {
+            return false;
+        }
+    }
+    true
+}
+
+// Whether a frame is opening: it has at least one contact, and each has 0x19.
+pub fn is_opening(rest: &[u8], n: u16) -> bool
+    ensures { λ r. ⌜ r ≡ ofRead false opening (contactsOf n (now (rest .entry))) ⌝ }
+{
+    if n == 0 {
+        return false;
+    }
+    all_down(rest, n)
+}

@@ -1,0 +1,5 @@
+pub mod Moving
+pub mod Cancelling
+pub mod Dismissal
+pub mod Kept
+pub mod Unique

@@ -1,0 +1,109 @@
+-- `moves::table::apply` meets its contract. The loop keeps: the contacts that are left lead from the table as it is where all lead from it as it was.
+-- Assumes nothing.
+use borrow.Author.Needs.{needs}
+use Prim.Native.Nat.{ℕ, _≤_, _+_}
+use mathlib.Core.Path.{_≡_, refl, sym, _∙_}
+use native.Mathlib.Omega.{arith}
+use lib.ListN.{length, drop}
+use Rattle.formats.proofs.Steps.{step, stop, Stepped}
+use Rattle.fields.specs.Integers.{strict}
+use Rattle.touch.specs.Touch.{contact}
+use Rattle.contacts.specs.Ruling.{tableOf, rulesOf}
+use Rattle.moves.specs.Moves.{afterRead}
+use Rattle.moves.proofs.Moving.{read-end, read-bad, read-on}
+use Rattle.moves.proofs.table.apply.Statement.{statement}
+use Rattle.moves.proofs.table.apply.Tie as tie
+
+abbrev Inv-loop : tie.InvT-loop
+Inv-loop rest n states₀ xs₀ ys₀ at₀ left₀ states xs ys at left =
+    (at ≤ length rest)
+    × ((most : ℕ) → afterRead (rulesOf most) left (tableOf states xs ys) (drop at rest) ≡ afterRead (rulesOf most) n (tableOf states₀ xs₀ ys₀) rest)
+
+abbrev μ-loop : tie.MeasureT-loop
+μ-loop rest n states₀ xs₀ ys₀ at₀ left₀ states xs ys at left = left
+
+-- the contact of this turn
+this : (c : tie.After-known-told Inv-loop μ-loop) →
+    let p = c .before .before .before .before .before .before in
+    Stepped (contact strict) (p .before .before .args .rest .now) (p .loop .at) (c .before .got .given .0 .0) (p .loop .at + c .before .got .given .0 .1 .0)
+this c =
+    let r = c .before .before .before in
+    let p = r .before .before .before in
+    step (contact strict) (p .before .before .args .rest .now) (p .loop .at) _ _ (p .loop .inv .0) (rw (c .before .got .given .1) at (r .read-contact .ensures))
+
+loop-holds : tie.Need-loop-holds Inv-loop μ-loop
+loop-holds c = (omega arith, λ most. refl)
+
+sub-read-contact : tie.Need-sub-read-contact Inv-loop μ-loop
+sub-read-contact c = search needs
+
+part-read-contact-start : tie.Need-part-read-contact-start Inv-loop μ-loop
+part-read-contact-start c = search needs
+
+part-read-contact-end : tie.Need-part-read-contact-end Inv-loop μ-loop
+part-read-contact-end c = search needs
+
+read-contact-requires : tie.Need-read-contact-requires Inv-loop μ-loop
+read-contact-requires c κs = search needs
+
+enum-known-got : tie.Need-enum-known-got Inv-loop μ-loop
+enum-known-got c = search needs
+
+enum-told : tie.Need-enum-told Inv-loop μ-loop
+enum-told c = search needs
+
+returns : tie.Need-returns Inv-loop μ-loop
+returns c =
+    let r = c .before .before in
+    let p = r .before .before .before in
+    let b = stop (contact strict) (p .before .before .args .rest .now) (p .loop .at) _ _ (rw (c .enum-told .given .1) at (r .read-contact .ensures)) in
+    record { table = λ most. sym (read-bad (rulesOf most) _ (p .loop .left) _ _ (r .before .before .loop-test .taken) b) ∙ p .loop .inv .1 most }
+
+move-contact-requires : tie.Need-move-contact-requires Inv-loop μ-loop
+move-contact-requires c κs = search needs
+
+add-at : tie.Need-add-at Inv-loop μ-loop
+add-at c = omega (arith, this (c .before .before .before .before) .ends)
+
+sub-left : tie.Need-sub-left Inv-loop μ-loop
+sub-left c = search needs
+
+loop-less : tie.Need-loop-less Inv-loop μ-loop
+loop-less c = search needs
+
+loop-again : tie.Need-loop-again Inv-loop μ-loop
+loop-again c =
+    let k = c .before .before .before .before in
+    let r = k .before .before .before in
+    let p = r .before .before .before in (
+      this k .ends,
+      λ most.
+          read-on most _ _ (p .loop .left) (p .loop .at) _ (p .before .before .args .rest .now) _ (r .before .before .loop-test .taken) (this k) (c .move-contact .ensures)
+          ∙ p .loop .inv .1 most,
+    )
+
+returns-2 : tie.Need-returns-2 Inv-loop μ-loop
+returns-2 c =
+    let p = c .before in
+    record { table = λ most. sym (read-end (rulesOf most) _ (p .loop .left) _ (c .loop-test .left)) ∙ p .loop .inv .1 most }
+
+pub apply-spec : {M : Type 1} → statement M
+apply-spec =
+    tie.close
+    (tie.spec
+    Inv-loop
+    μ-loop
+    loop-holds
+    sub-read-contact
+    part-read-contact-start
+    part-read-contact-end
+    read-contact-requires
+    enum-known-got
+    enum-told
+    returns
+    move-contact-requires
+    add-at
+    sub-left
+    loop-less
+    loop-again
+    returns-2)

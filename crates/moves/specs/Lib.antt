@@ -1,0 +1,2 @@
+-- What is done to the table of contacts.
+pub mod Moves

@@ -1,0 +1,43 @@
+-- What the calls leave of a table of contacts: a frame as it is read from a message, and a dismissal by the room that it was lent.
+use Prim.Native.Nat.{ℕ, zero, suc}
+use mathlib.Core.Path.{_≡_}
+use mathlib.Core.Bool.{cond}
+use mathlib.Core.List.{List}
+use lib.Dec.{leb}
+use lib.ListN.{length}
+use Rattle.slices.specs.Writing.{bytes, Writes}
+use Rattle.slices.specs.declared.Written.{Written}
+use Rattle.formats.specs.Format.{Got, got, bad}
+use Rattle.fields.specs.Integers.{strict}
+use Rattle.house.specs.declared.Contact.{Contact}
+use Rattle.touch.specs.Touch.{contact}
+use Rattle.contacts.specs.Table.{Table}
+use Rattle.contacts.specs.Conforms.{Rules, moved}
+use Rattle.contacts.specs.Machine.{dismissTable, dismissBytes}
+use Rattle.contacts.specs.Ruling.{rulesOf}
+
+-- what a value and the bytes after it lead to, and z where there is none
+abbrev pub onRead : {A B : Type 0} → B → (A → List ℕ → B) → Got A → B
+onRead z f (got a t) = f a t
+onRead z f (bad e) = z
+
+-- what n contacts at the front of a list of bytes leave, one after the other; those before the first that cannot be read, where one cannot
+unfoldable pub afterRead : Rules → ℕ → Table → List ℕ → Table
+afterRead rules zero t l = t
+afterRead rules (suc n) t l = onRead t (λ c rest. afterRead rules n (moved rules t c) rest) (contact strict .read l)
+
+-- one contact stored, however many may be active
+pub record Moves (c : Contact) (before after : Table) : Type 0 where
+  pub table : (most : ℕ) → after ≡ moved (rulesOf most) before c
+
+-- the n contacts at the front of l stored
+pub record Applies (n : ℕ) (l : List ℕ) (before after : Table) : Type 0 where
+  pub table : (most : ℕ) → after ≡ afterRead (rulesOf most) n before l
+
+-- a dismissal that finds too little room leaves the table as it was
+unfoldable pub dismissedIn : ℕ → Table → ℕ → Table
+dismissedIn room t id = cond (leb (length (dismissBytes t id)) room) (dismissTable t id) t
+
+pub record Dismisses (id : ℕ) (w : Written) (before after : List ℕ) (t u : Table) : Type 0 where
+  pub writes : Writes (bytes (dismissBytes t id)) w before after
+  pub table : u ≡ dismissedIn (length before) t id

@@ -1,0 +1,89 @@
+-- How long the records of frames are, and that those of a run of frames are those of its parts.
+-- Assumes nothing.
+use Prim.Native.Nat.{ℕ, suc, _+_, _*_, _/_}
+use mathlib.Core.Path.{_≡_, refl, ap, sym, _∙_}
+use mathlib.Core.Bool.{false}
+use mathlib.Core.List.{List, [], _∷_, _++_, append-assoc}
+use native.Mathlib.Omega.{arith}
+use lib.ListN.{length, length-append}
+use Rattle.formats.specs.Format.{got, times}
+use Rattle.formats.proofs.Laws.{series-length}
+use Rattle.fields.specs.Integers.{strict}
+use Rattle.house.specs.Layout.{headBytes, contactBytes, touched}
+use Rattle.house.specs.declared.Head.{Head}
+use Rattle.house.specs.declared.Contact.{Contact}
+use Rattle.house.proofs.Round.{length-head, length-contact}
+use Rattle.touch.specs.Touch.{Frame, headOf, contact, contactsBytes, frameBytes, framesBytes}
+use Rattle.frame_records.specs.Frames.{recordsIn}
+
+-- ---- one more
+
+pub contacts-cons : (c : Contact) (cs : List Contact) → contactsBytes (c ∷ cs) ≡ contactBytes touched c ++ contactsBytes cs
+unfolding contactsBytes
+contacts-cons c cs = refl
+
+pub contacts-none : contactsBytes [] ≡ []
+unfolding contactsBytes
+contacts-none = refl
+
+pub frames-cons : (f : Frame) (fs : List Frame) → framesBytes (f ∷ fs) ≡ frameBytes f ++ framesBytes fs
+unfolding framesBytes
+frames-cons f fs = refl
+
+pub frames-none : framesBytes [] ≡ []
+unfolding framesBytes
+frames-none = refl
+
+pub frame-is : (f : Frame) → frameBytes f ≡ headBytes (headOf f) ++ contactsBytes (f .contacts)
+unfolding frameBytes
+frame-is f = refl
+
+pub records-cons : (f : Frame) (fs : List Frame) → recordsIn (f ∷ fs) ≡ suc (length (f .contacts)) + recordsIn fs
+unfolding recordsIn
+records-cons f fs = refl
+
+pub records-none : recordsIn [] ≡ 0
+unfolding recordsIn
+records-none = refl
+
+-- ---- lengths
+
+pub length-contacts : (cs : List Contact) → length (contactsBytes cs) ≡ 21 * length cs
+unfolding contactsBytes
+length-contacts [] = refl
+length-contacts (c ∷ cs) = rw (length-append, length-contact touched c, length-contacts cs) (omega arith)
+
+-- of n contacts that were read
+pub length-read : (n : ℕ) (l : List ℕ) (cs : List Contact) (t : List ℕ) → times n (contact strict) .read l ≡ got cs t → length (contactsBytes cs) ≡ 21 * n
+length-read n l cs t e = length-contacts cs ∙ ap (λ (k : ℕ). 21 * k) (series-length (λ b. contact strict) false n l cs t e)
+
+-- of a head and its contacts that were read
+pub length-written : (h : Head) (l : List ℕ) (cs : List Contact) (t : List ℕ) → times (h .count) (contact strict) .read l ≡ got cs t → length (headBytes h ++ contactsBytes cs) ≡ 21 * (h .count + 1)
+length-written h l cs t e = rw (length-append, length-head h, length-read (h .count) l cs t e) (omega arith)
+
+pub length-frame : (f : Frame) → length (frameBytes f) ≡ 21 * (length (f .contacts) + 1)
+unfolding frameBytes
+length-frame f = rw (length-append, length-head (headOf f), length-contacts (f .contacts)) (omega arith)
+
+-- 21 bytes a record
+pub length-frames : (fs : List Frame) → length (framesBytes fs) ≡ 21 * recordsIn fs
+unfolding framesBytes recordsIn
+length-frames [] = refl
+length-frames (f ∷ fs) = rw (length-append, length-frame f, length-frames fs) (omega arith)
+
+-- ---- parts
+
+pub contacts-append : (cs ds : List Contact) → contactsBytes (cs ++ ds) ≡ contactsBytes cs ++ contactsBytes ds
+unfolding contactsBytes
+contacts-append [] ds = refl
+contacts-append (c ∷ cs) ds = rw (contacts-append cs ds, append-assoc)
+
+pub frames-append : (fs gs : List Frame) → framesBytes (fs ++ gs) ≡ framesBytes fs ++ framesBytes gs
+unfolding framesBytes
+frames-append [] gs = refl
+frames-append (f ∷ fs) gs = rw (frames-append fs gs, append-assoc)
+
+pub records-append : (fs gs : List Frame) → recordsIn (fs ++ gs) ≡ recordsIn fs + recordsIn gs
+unfolding recordsIn
+records-append [] gs = omega arith
+records-append (f ∷ fs) gs = rw (records-append fs gs) (omega arith)

@@ -1,0 +1,4 @@
+pub mod Laws
+pub mod Passes
+pub mod Finding
+pub mod Unique

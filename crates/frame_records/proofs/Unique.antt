@@ -1,0 +1,41 @@
+-- Two outcomes that a contract of this crate allows are equal: of finding a frame always, of writing one where its contacts can be read.
+-- Assumes nothing.
+use Prim.Native.Nat.{ℕ, _≤_}
+use mathlib.Core.Path.{_≡_, refl, sym, ap, _∙_}
+use mathlib.Core.Bool.{false}
+use mathlib.Core.List.{List, _++_}
+use native.Mathlib.Omega.{arith}
+use lib.ListN.{length, drop, length-drop}
+use Rattle.slices.specs.Writing.{bytes}
+use Rattle.slices.specs.declared.Written.{Written}
+use Rattle.slices.proofs.Laws.{writes-unique}
+use Rattle.formats.specs.Format.{Got, got, bad, times}
+use Rattle.fields.specs.Integers.{strict}
+use Rattle.house.specs.Layout.{headBytes}
+use Rattle.house.specs.declared.Head.{Head}
+use Rattle.house.specs.declared.Contact.{Contact}
+use Rattle.touch.specs.Touch.{Frame, headOf, contact, frame, contactsBytes}
+use Rattle.frame_records.specs.Frames.{WritesFrame, Found, Finds, FindsFrame}
+use Rattle.frame_records.specs.declared.FoundFrame.{FoundFrame}
+
+pub write-frame-unique : (h : Head) (l : List ℕ) (cs : List Contact) (t : List ℕ) → times (h .count) (contact strict) .read l ≡ got cs t
+    → (v w : Written) (before after after′ : List ℕ) → WritesFrame h l v before after → WritesFrame h l w before after′ → (v ≡ w) × (after ≡ after′)
+write-frame-unique h l cs t e v w b a a′ p q = writes-unique (bytes (headBytes h ++ contactsBytes cs)) v w b a a′ (p cs t e) (q cs t e)
+
+-- ---- finding
+
+-- a place within a list is told by what is behind it
+place : (l : List ℕ) (m n : ℕ) → m ≤ length l → n ≤ length l → drop m l ≡ drop n l → m ≡ n
+place l m n hm hn e = omega (arith, length-drop m l, length-drop n l, ap length e)
+
+pub find-frame-unique : (l : List ℕ) (r s : FoundFrame) → FindsFrame l r → FindsFrame l s → r ≡ s
+find-frame-unique l r s p q = go (frame strict false .read l) (p .found) (q .found)
+  where
+    go : (x : Got Frame) → Finds x l r → Finds x l s → r ≡ s
+    go (bad e) a b = a ∙ sym b
+    go (got f t) a b =
+        let h : r .head ≡ s .head = a .head ∙ sym (b .head) in
+        let g : got (headOf f) (drop (r .contacts) l) ≡ got (headOf f) (drop (s .contacts) l) = sym (a .headed) ∙ b .headed in
+        let m : r .contacts ≡ s .contacts = place l (r .contacts) (s .contacts) (p .begins) (q .begins) (cc) in
+        let n : r .end ≡ s .end = place l (r .end) (s .end) (p .ends) (q .ends) (a .rest ∙ sym (b .rest)) in
+        λ i. record { head = h i; contacts = m i; end = n i }

@@ -1,0 +1,42 @@
+// Where a frame stands.
+use crate::FoundFrame;
+use house::Head;
+use paper::Microseconds;
+use touch::End;
+use touch::ReadHead;
+ghost use mathlib.Core.Path.{_≡_};
+ghost use Rattle.frame_records.specs.Frames.{nowhere, FindsFrame};
+
+// The answer where no frame can be read.
+fn none() -> FoundFrame
+    ensures { λ r. ⌜ r ≡ nowhere ⌝ }
+{
+    let head = Head {
+        count: 0,
+        offset: Microseconds(0),
+    };
+    FoundFrame {
+        head: head,
+        contacts: 0,
+        end: 0,
+    }
+}
+
+// The frame at the front of what is lent, whose offset is not judged.
+pub fn find_frame(rest: &[u8]) -> FoundFrame
+    ensures { λ r. ⌜ FindsFrame (now (rest .entry)) r ⌝ }
+{
+    let got_head = touch::read_frame_head(rest, false);
+    let ReadHead::Value(head, at) = got_head else {
+        return none();
+    };
+    let got_end = touch::skip_contacts(&rest[at..], head.count as usize);
+    let End::At(n) = got_end else {
+        return none();
+    };
+    FoundFrame {
+        head: head,
+        contacts: at,
+        end: at + n,
+    }
+}

@@ -1,0 +1,37 @@
+-- The three ways of meeting the contract of the plain reading: a refusal of the message, no room, and the records of its frames.
+-- Assumes nothing.
+use Prim.Native.Nat.{ℕ, _*_, _/_, _≤_, _<_}
+use mathlib.Core.Path.{_≡_, refl, sym, ap, _∙_}
+use mathlib.Core.List.{List, []}
+use native.Mathlib.Omega.{arith}
+use lib.ListN.{length}
+use Rattle.paper.specs.Refusals.{none, noRoom}
+use Rattle.slices.specs.Writing.{laid}
+use Rattle.slices.proofs.Laws.{given-room, given-none, given-refuse}
+use Rattle.formats.specs.Format.{got, bad}
+use Rattle.touch.specs.Touch.{Frame, Touch, framesBytes}
+use Rattle.frame_records.specs.Frames.{recordsIn}
+use Rattle.frame_records.proofs.Laws.{length-frames}
+use Rattle.reading.specs.Plain.{plainly, refusal, ReadsPlainly}
+use Rattle.reading.specs.declared.PlainAnswer.{PlainAnswer}
+
+-- THE COUNT IS OF WHAT IS WRITTEN: the records that are counted are those whose bytes are
+pub counted : (fs : List Frame) → length (framesBytes fs) / 21 ≡ recordsIn fs
+counted fs = let n = length-frames fs in omega arith
+
+module _ (l : List ℕ) (a : PlainAnswer) (before after : List ℕ) where
+  pub plain-refused : (e : ℕ) → plainly l ≡ bad e → a ≡ refusal e → after ≡ before → ReadsPlainly l a before after
+  plain-refused e h ea eo =
+      record { answer = rw (h, given-refuse e (length before)) ea; output = rw (h, given-refuse e (length before)) eo }
+
+  module _ (m : Touch) (h : plainly l ≡ got m []) where
+    pub plain-none : length before < length (framesBytes (m .frames)) → a ≡ refusal noRoom → after ≡ before → ReadsPlainly l a before after
+    plain-none k ea eo =
+        record { answer = rw (h, given-none (framesBytes (m .frames)) (length before) k) ea; output = rw (h, given-none (framesBytes (m .frames)) (length before) k) eo }
+
+    pub plain-read : length (framesBytes (m .frames)) ≤ length before → a ≡ record { refusal = none; time = m .time; records = recordsIn (m .frames) } → after ≡ laid before (framesBytes (m .frames)) → ReadsPlainly l a before after
+    plain-read k ea eo =
+        record {
+          answer = rw (h, given-room (framesBytes (m .frames)) (length before) k, counted (m .frames)) ea;
+          output = rw (h, given-room (framesBytes (m .frames)) (length before) k) eo;
+        }

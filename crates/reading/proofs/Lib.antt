@@ -1,0 +1,5 @@
+pub mod Counting
+pub mod Writing
+pub mod Judging
+pub mod Answering
+pub mod Unique

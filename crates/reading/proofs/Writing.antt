@@ -1,0 +1,58 @@
+-- The pass that writes: frame after frame, each found where the one before it ended and written where its records ended.
+-- Assumes nothing.
+use Prim.Native.Nat.{ℕ, _+_, _-_, _≤_, _<_}
+use mathlib.Core.Path.{_≡_, refl, sym, ap, _∙_}
+use mathlib.Core.Bool.{false}
+use mathlib.Core.List.{List, [], _++_}
+use lib.ListN.{length, take, drop}
+use borrow.Rule.Slice.PartMut.{midOf, putMid}
+use Rattle.slices.specs.Writing.{bytes, Writes}
+use Rattle.slices.specs.declared.Written.{Written}
+use Rattle.slices.proofs.Laws.{writes-done}
+use Rattle.formats.specs.Format.{got}
+use Rattle.formats.proofs.Steps.{tail}
+use Rattle.fields.specs.Integers.{strict}
+use Rattle.house.specs.Layout.{headBytes}
+use Rattle.touch.specs.Touch.{Frame, frame, contactsBytes, frameBytes, framesBytes}
+use Rattle.frame_records.specs.Frames.{WritesFrame, FindsFrame}
+use Rattle.frame_records.specs.declared.FoundFrame.{FoundFrame}
+use Rattle.frame_records.proofs.Laws.{frame-is, frames-cons, frames-none}
+use Rattle.frame_records.proofs.Finding.{turn}
+use Rattle.frame_records.proofs.Passes.{Ahead, ahead-first, ahead-room, ahead-next, ahead-done}
+use Rattle.reading.specs.Passes.{frames, Roomy, WritesFrames}
+
+-- n frames of l are written over d: `left` of them are to come
+pub record Writing (n : ℕ) (l d out : List ℕ) (pos at left : ℕ) : Type 0 where
+  pub whole : List Frame
+  pub read : frames n .read l ≡ got whole []
+  pub ahead : Ahead (frame strict) framesBytes l d whole [] out pos at left
+
+module _ (n : ℕ) (l d : List ℕ) where
+  pub writing-first : Roomy n l (length d) → Writing n l d d 0 0 n
+  writing-first r = record { whole = r .whole; read = r .read; ahead = ahead-first (frame strict) framesBytes l d (r .whole) [] n (r .read) (r .fits) }
+
+  module _ (out : List ℕ) (pos at left : ℕ) (h : Writing n l d out pos at left) where
+    -- the frame r was found, and w answered for its records, written through the tail that came back as o
+    pub writing-next : (r : FoundFrame) (w : Written) (o : List ℕ) → 0 < left → FindsFrame (take (length l - at) (drop at l)) r
+        → WritesFrame (r .head) (take (length l - (at + r .contacts)) (drop (at + r .contacts) l)) w (midOf pos (length out - pos) out) o
+        → Writing n l d (putMid pos (length out - pos) out o) (pos + w .bytes) (at + r .end) (left - 1)
+    writing-next r w o k here written =
+        let a = h .ahead in
+        let x = turn l at r here [] left (a .more) k (a .read) in
+        let f = x .frame in
+        let next = at + r .end in
+        let y : Writes (bytes (headBytes (r .head) ++ contactsBytes (f .contacts))) w (midOf pos (length out - pos) out) o = written (f .contacts) (drop next l) (rw (tail l (at + r .contacts)) (x .contacts)) in
+        let e : headBytes (r .head) ++ contactsBytes (f .contacts) ≡ frameBytes f = ap (λ g. headBytes g ++ contactsBytes (f .contacts)) (x .head) ∙ sym (frame-is f) in
+        let z : Writes (bytes (frameBytes f)) w (midOf pos (length out - pos) out) o = rw e at y in
+        let v = writes-done _ _ _ _ z (ahead-room (frame strict) framesBytes l d (h .whole) [] out pos at left a f next (frameBytes f) k (x .read) (frames-cons f)) in
+        record {
+          whole = h .whole;
+          read = h .read;
+          ahead = ahead-next (frame strict) framesBytes l d (h .whole) [] out pos at left a f next o (frameBytes f) (w .bytes) k (x .read) (frames-cons f) (v .output) (v .count);
+        }
+
+    pub writing-done : left ≤ 0 → WritesFrames n l d out
+    writing-done k fs t e =
+        let p : got fs t ≡ got (h .whole) [] = sym e ∙ h .read in
+        let q : h .whole ≡ fs = cc in
+        rw q at (ahead-done (frame strict) framesBytes l d (h .whole) [] out pos at left (h .ahead) k frames-none)

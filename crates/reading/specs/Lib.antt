@@ -1,0 +1,3 @@
+-- The plain reading.
+pub mod Plain
+pub mod Passes

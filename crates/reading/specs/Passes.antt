@@ -1,0 +1,46 @@
+-- What the parts of the plain reading answer: the judging of a message, the pass that counts its records and the pass that writes them.
+use Prim.Native.Nat.{ℕ, _*_, _≤_}
+use mathlib.Core.Path.{_≡_}
+use mathlib.Core.Bool.{false}
+use mathlib.Core.List.{List, []}
+use lib.ListN.{length, drop}
+use Rattle.slices.specs.Writing.{laid}
+use Rattle.formats.specs.Format.{Format, got, bad, series}
+use Rattle.fields.specs.Integers.{strict}
+use Rattle.touch.specs.Touch.{Frame, Touch, touchHeadOf, frame, framesBytes}
+use Rattle.touch.specs.declared.TouchHead.{TouchHead}
+use Rattle.touch.specs.declared.CheckedBody.{CheckedBody}
+use Rattle.touch.specs.declared.CheckedBody.the-variants as CheckedBody
+use Rattle.frame_records.specs.Frames.{recordsIn}
+use Rattle.reading.specs.Plain.{plainly}
+
+-- n frames, whose offsets are not judged
+abbrev pub frames : ℕ → Format (List Frame)
+frames n = series (frame strict) false n
+
+-- a message that is read: what stands before its frames, and that these begin at at
+pub record Reads (l : List ℕ) (h : TouchHead) (at : ℕ) : Type 0 where
+  pub message : Touch
+  pub read : plainly l ≡ got message []
+  pub head : h ≡ touchHeadOf message
+  pub inside : at ≤ length l
+  pub frames : frames (h .frames) .read (drop at l) ≡ got (message .frames) []
+
+abbrev pub Judges : List ℕ → CheckedBody → Type 0
+Judges l (CheckedBody.Body h at) = Reads l h at
+Judges l (CheckedBody.Refused e) = plainly l ≡ bad e
+
+-- r is how many records n frames have, if they can be read
+pub record Counts (n : ℕ) (l : List ℕ) (r : ℕ) : Type 0 where
+  pub same : (fs : List Frame) (t : List ℕ) → frames n .read l ≡ got fs t → r ≡ recordsIn fs
+  pub most : r ≤ 256 * n
+
+-- n frames can be read, and there is room for their records
+pub record Roomy (n : ℕ) (l : List ℕ) (room : ℕ) : Type 0 where
+  pub whole : List Frame
+  pub read : frames n .read l ≡ got whole []
+  pub fits : length (framesBytes whole) ≤ room
+
+-- their records are written, and nothing past them
+abbrev pub WritesFrames : ℕ → List ℕ → List ℕ → List ℕ → Type 0
+WritesFrames n l before after = (fs : List Frame) (t : List ℕ) → frames n .read l ≡ got fs t → after ≡ laid before (framesBytes fs)

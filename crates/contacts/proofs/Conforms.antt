@@ -1,20 +1,19 @@
 -- When a frame conforms, contact by contact; and what a frame of distinct ids leaves.
 -- Assumes nothing.
-use Prim.Native.Nat.{ℕ, zero, suc, _+_, _≤_, _<_}
+use Prim.Native.Nat.{ℕ, _+_, _<_}
 use mathlib.Core.Path.{_≡_, refl, sym, ap, _∙_}
 use mathlib.Core.Bool.{Bool, true, false, cond, not}
 use mathlib.Core.List.{List, [], _∷_}
 use native.Mathlib.Omega.{arith}
 use borrow.Author.Tests.{eqb-false, ltb-true, not-true}
 use lib.Dec.{eqb, ltb}
-use lib.ListN.{length, getD, set}
-use Rattle.states.specs.Table.{out, illegal}
-use Rattle.house.specs.declared.Point.{Point}
+use lib.ListN.{length}
+use Rattle.states.specs.Table.{illegal}
 use Rattle.house.specs.declared.Contact.{Contact}
 use Rattle.contacts.specs.Table.{Table, contacts, stateAt, placeAt, withContact, active, one, countActive}
 use Rattle.contacts.specs.Conforms.{Rules, every, otherId, distinct, nextOf, legal, stays, placeIn, moved, after}
 use Rattle.contacts.specs.Ruling.{came, gone}
-use Rattle.contacts.proofs.Table.{Whole, state-same, state-other, place-same, place-other, with-whole, count-set}
+use Rattle.contacts.proofs.Table.{Whole, state-same, state-other, place-other, with-whole, count-set}
 
 -- ---- both of two tests
 

@@ -3,14 +3,14 @@
 use Prim.Native.Nat.{ℕ, _+_, _-_, _≤_}
 use mathlib.Core.Path.{_≡_, refl, sym, ap, _∙_}
 use mathlib.Core.Bool.{Bool, true, false, cond}
-use mathlib.Core.List.{List, [], _∷_}
+use mathlib.Core.List.{List, _∷_}
 use native.Mathlib.Omega.{arith}
 use lib.IntN.{ℤ}
 use lib.ListN.{length, getD}
 use Rattle.formats.specs.Format.{Got, got, bad}
 use Rattle.states.specs.Table.{out, next}
 use Rattle.house.specs.declared.Contact.{Contact}
-use Rattle.contacts.specs.Table.{Table, contacts, resting, stateAt, placeAt, active, one, countActive}
+use Rattle.contacts.specs.Table.{contacts, resting, stateAt, placeAt, active, one, countActive}
 use Rattle.contacts.specs.Conforms.{Rules, every, distinct, after, conforms}
 use Rattle.contacts.specs.Machine.{Machine, opening, Verdict, injected, ignored, cancelled, verdict}
 use Rattle.contacts.specs.Ruling.{ofRead, tableOf, rulesOf, legalIn, staysIn, came, gone, Changes, Counts, Counted, judgedAs, refused, judgedOf, rulingAs, rulingOf, unread}

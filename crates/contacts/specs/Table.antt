@@ -1,11 +1,11 @@
 -- The 256 contacts: a state and a position each. Nothing above uses how they are kept.
-use Prim.Native.Nat.{ℕ, suc, zero, _+_}
+use Prim.Native.Nat.{ℕ, _+_}
 use mathlib.Core.Bool.{Bool, true, false, cond}
-use mathlib.Core.List.{List, [], _∷_, _++_}
+use mathlib.Core.List.{List, [], _∷_}
 use lib.Dec.{eqb}
 use lib.IntN.{ℤ, pos}
 use lib.ListN.{getD, set, replicate}
-use Rattle.states.specs.Table.{out, engaged}
+use Rattle.states.specs.Table.{out}
 use Rattle.house.specs.declared.Point.{Point}
 
 pub record Table : Type 0 where

@@ -37,8 +37,8 @@ pub(crate) fn ids_distinct(rest: &[u8], n: u16) -> bool
 fn is_legal(contact: Contact, states: &[u8; 256]) -> bool
     ensures { λ r. ⌜ r ≡ legalIn (now (states .entry)) contact ⌝ }
 {
-    let i = contact.id as usize;
-    states::next_state(contact.flags, states[i]) != states::ILLEGAL
+    let own = contact.id as usize;
+    states::next_state(contact.flags, states[own]) != states::ILLEGAL
 }
 
 // Each contact is legal from its state before the frame.

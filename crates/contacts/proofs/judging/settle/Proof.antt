@@ -5,8 +5,6 @@ use borrow.Author.Tests.{le-leb, lt-leb}
 use native.Mathlib.Omega.{arith}
 use Rattle.contacts.proofs.judging.settle.Statement.{statement}
 use Rattle.contacts.proofs.judging.settle.Tie as tie
-use Rattle.contacts.proofs.judging.settle.Reads as reads
-use Rattle.contacts.proofs.judging.settle.Lts as lts
 
 cast-came : tie.Need-cast-came
 cast-came c = search needs

@@ -8,11 +8,9 @@ use Rattle.states.specs.Table.{illegal}
 use Rattle.contacts.specs.Table.{stateAt}
 use Rattle.contacts.proofs.rules.is_legal.Statement.{statement}
 use Rattle.contacts.proofs.rules.is_legal.Tie as tie
-use Rattle.contacts.proofs.rules.is_legal.Reads as reads
-use Rattle.contacts.proofs.rules.is_legal.Lts as lts
 
-cast-i : tie.Need-cast-i
-cast-i c = search needs
+cast-own : tie.Need-cast-own
+cast-own c = search needs
 
 element-copy-out-next-state : tie.Need-element-copy-out-next-state
 element-copy-out-next-state c = search needs
@@ -25,4 +23,4 @@ unfolding stateAt
 returns c = ap (λ s. not (eqb s illegal)) (c .next-state .ensures)
 
 pub is-legal-spec : {M : Type 1} → statement M
-is-legal-spec = tie.close (tie.spec cast-i element-copy-out-next-state next-state-requires returns)
+is-legal-spec = tie.close (tie.spec cast-own element-copy-out-next-state next-state-requires returns)

@@ -1,7 +1,7 @@
 -- `contacts::rules::is_opening` meets its contract: with no contact nothing opens.
 -- Assumes nothing.
 use borrow.Author.Needs.{needs}
-use mathlib.Core.Path.{_≡_, sym, _∙_}
+use mathlib.Core.Path.{sym, _∙_}
 use native.Mathlib.Omega.{arith}
 use Rattle.contacts.proofs.Reading.{read-none, read-opening}
 use Rattle.contacts.proofs.rules.is_opening.Statement.{statement}

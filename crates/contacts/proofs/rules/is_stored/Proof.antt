@@ -11,8 +11,6 @@ use Rattle.contacts.specs.Table.{placeAt}
 use Rattle.contacts.specs.Conforms.{sameNumber}
 use Rattle.contacts.proofs.rules.is_stored.Statement.{statement}
 use Rattle.contacts.proofs.rules.is_stored.Tie as tie
-use Rattle.contacts.proofs.rules.is_stored.Reads as reads
-use Rattle.contacts.proofs.rules.is_stored.Lts as lts
 
 mul-same-number : tie.Need-mul-same-number
 mul-same-number c = search needs

@@ -16,7 +16,7 @@ use Rattle.house.specs.declared.Head.{Head}
 use Rattle.house.specs.declared.Contact.{Contact}
 use Rattle.touch.specs.Touch.{Frame, headOf, contact, frameHead, frame}
 use Rattle.touch.proofs.Passes.{frameBy, next-got}
-use Rattle.frame_records.specs.Frames.{Found, nowhere, Finds, FindsFrame}
+use Rattle.frame_records.specs.Frames.{Found, nowhere, FindsFrame}
 use Rattle.frame_records.specs.declared.FoundFrame.{FoundFrame}
 
 module _ (l : List ℕ) where

@@ -1,26 +1,24 @@
 -- Two outcomes that a contract of this crate allows are equal: of finding a frame always, of writing one where its contacts can be read.
 -- Assumes nothing.
 use Prim.Native.Nat.{ℕ, _≤_}
-use mathlib.Core.Path.{_≡_, refl, sym, ap, _∙_}
+use mathlib.Core.Path.{_≡_, sym, ap, _∙_}
 use mathlib.Core.Bool.{false}
-use mathlib.Core.List.{List, _++_}
+use mathlib.Core.List.{List}
 use native.Mathlib.Omega.{arith}
 use lib.ListN.{length, drop, length-drop}
-use Rattle.slices.specs.Writing.{bytes}
 use Rattle.slices.specs.declared.Written.{Written}
 use Rattle.slices.proofs.Laws.{writes-unique}
 use Rattle.formats.specs.Format.{Got, got, bad, times}
 use Rattle.fields.specs.Integers.{strict}
-use Rattle.house.specs.Layout.{headBytes}
 use Rattle.house.specs.declared.Head.{Head}
 use Rattle.house.specs.declared.Contact.{Contact}
-use Rattle.touch.specs.Touch.{Frame, headOf, contact, frame, contactsBytes}
-use Rattle.frame_records.specs.Frames.{WritesFrame, Found, Finds, FindsFrame}
+use Rattle.touch.specs.Touch.{Frame, headOf, contact, frame}
+use Rattle.frame_records.specs.Frames.{WritesFrame, Finds, FindsFrame}
 use Rattle.frame_records.specs.declared.FoundFrame.{FoundFrame}
 
 pub write-frame-unique : (h : Head) (l : List ℕ) (cs : List Contact) (t : List ℕ) → times (h .count) (contact strict) .read l ≡ got cs t
     → (v w : Written) (before after after′ : List ℕ) → WritesFrame h l v before after → WritesFrame h l w before after′ → (v ≡ w) × (after ≡ after′)
-write-frame-unique h l cs t e v w b a a′ p q = writes-unique (bytes (headBytes h ++ contactsBytes cs)) v w b a a′ (p cs t e) (q cs t e)
+write-frame-unique h l cs t e v w b a a′ p q = writes-unique _ v w b a a′ (p cs t e) (q cs t e)
 
 -- ---- finding
 

@@ -1,18 +1,18 @@
 -- The three ways of meeting the contract of the plain reading: a refusal of the message, no room, and the records of its frames.
 -- Assumes nothing.
-use Prim.Native.Nat.{ℕ, _*_, _/_, _≤_, _<_}
-use mathlib.Core.Path.{_≡_, refl, sym, ap, _∙_}
+use Prim.Native.Nat.{ℕ, _/_, _≤_, _<_}
+use mathlib.Core.Path.{_≡_, sym, ap, _∙_}
 use mathlib.Core.List.{List, []}
 use native.Mathlib.Omega.{arith}
 use lib.ListN.{length}
 use Rattle.paper.specs.Refusals.{none, noRoom}
-use Rattle.slices.specs.Writing.{laid}
+use Rattle.slices.specs.Writing.{laid, Draft, bytes, refuse, given, left}
 use Rattle.slices.proofs.Laws.{given-room, given-none, given-refuse}
-use Rattle.formats.specs.Format.{got, bad}
+use Rattle.formats.specs.Format.{Got, got, bad}
 use Rattle.touch.specs.Touch.{Frame, Touch, framesBytes}
 use Rattle.frame_records.specs.Frames.{recordsIn}
 use Rattle.frame_records.proofs.Laws.{length-frames}
-use Rattle.reading.specs.Plain.{plainly, refusal, ReadsPlainly}
+use Rattle.reading.specs.Plain.{plainly, draftOf, timeOf, refusal, answered, ReadsPlainly}
 use Rattle.reading.specs.declared.PlainAnswer.{PlainAnswer}
 
 -- THE COUNT IS OF WHAT IS WRITTEN: the records that are counted are those whose bytes are
@@ -20,18 +20,21 @@ pub counted : (fs : List Frame) → length (framesBytes fs) / 21 ≡ recordsIn f
 counted fs = let n = length-frames fs in omega arith
 
 module _ (l : List ℕ) (a : PlainAnswer) (before after : List ℕ) where
+  -- of what the message says and what is then written
+  met : (x : Got Touch) (d : Draft) → plainly l ≡ x → given (length before) (draftOf x) ≡ d → a ≡ answered (timeOf x) d → after ≡ left before d → ReadsPlainly l a before after
+  met x d h k ea eo =
+      record {
+        answer = ea ∙ sym (ap (λ (y : Got Touch). answered (timeOf y) (given (length before) (draftOf y))) h ∙ ap (answered (timeOf x)) k);
+        output = eo ∙ sym (ap (λ (y : Got Touch). left before (given (length before) (draftOf y))) h ∙ ap (left before) k);
+      }
+
   pub plain-refused : (e : ℕ) → plainly l ≡ bad e → a ≡ refusal e → after ≡ before → ReadsPlainly l a before after
-  plain-refused e h ea eo =
-      record { answer = rw (h, given-refuse e (length before)) ea; output = rw (h, given-refuse e (length before)) eo }
+  plain-refused e h ea eo = met (bad e) (refuse e) h (given-refuse e (length before)) ea eo
 
   module _ (m : Touch) (h : plainly l ≡ got m []) where
     pub plain-none : length before < length (framesBytes (m .frames)) → a ≡ refusal noRoom → after ≡ before → ReadsPlainly l a before after
-    plain-none k ea eo =
-        record { answer = rw (h, given-none (framesBytes (m .frames)) (length before) k) ea; output = rw (h, given-none (framesBytes (m .frames)) (length before) k) eo }
+    plain-none k ea eo = met (got m []) (refuse noRoom) h (given-none (framesBytes (m .frames)) (length before) k) ea eo
 
-    pub plain-read : length (framesBytes (m .frames)) ≤ length before → a ≡ record { refusal = none; time = m .time; records = recordsIn (m .frames) } → after ≡ laid before (framesBytes (m .frames)) → ReadsPlainly l a before after
-    plain-read k ea eo =
-        record {
-          answer = rw (h, given-room (framesBytes (m .frames)) (length before) k, counted (m .frames)) ea;
-          output = rw (h, given-room (framesBytes (m .frames)) (length before) k) eo;
-        }
+    pub plain-read : length (framesBytes (m .frames)) ≤ length before → a ≡ record { refusal = none; time = m .time; records = recordsIn (m .frames) }
+        → after ≡ laid before (framesBytes (m .frames)) → ReadsPlainly l a before after
+    plain-read k ea eo = met (got m []) (bytes (framesBytes (m .frames))) h (given-room (framesBytes (m .frames)) (length before) k) (rw (counted (m .frames)) ea) eo

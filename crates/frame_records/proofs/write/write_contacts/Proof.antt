@@ -3,7 +3,7 @@
 -- Assumes nothing.
 use borrow.Author.Needs.{needs}
 use Prim.Native.Nat.{ℕ, _+_, _-_, _*_, _≤_}
-use mathlib.Core.Path.{_≡_, refl, sym, ap, _∙_}
+use mathlib.Core.Path.{_≡_, refl, sym, _∙_}
 use mathlib.Core.List.{List, [], append-nil}
 use native.Mathlib.Omega.{arith}
 use lib.ListN.{length, length-drop}
@@ -99,7 +99,7 @@ laid-one : (c : tie.After-write-contact Inv-loop μ-loop) →
 laid-one c =
     let g = c .before .before in
     let p = g .before .before .before .before .before .before in
-    writes-done _ _ _ _ (c .write-contact .ensures) (rw (length-contact touched (g .before .got .given .0 .0), tail-is (p .loop .out) (p .loop .pos), length-drop) (omega arith))
+    writes-done _ _ _ _ (c .write-contact .ensures) (rw (length-contact, tail-is (p .loop .out) (p .loop .pos), length-drop) (omega arith))
 
 add-pos : tie.Need-add-pos Inv-loop μ-loop
 add-pos c = omega arith

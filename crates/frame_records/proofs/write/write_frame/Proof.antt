@@ -1,22 +1,13 @@
 -- `frame_records::write::write_frame` meets its contract: 13 before anything is touched, or the head's record and then those of its contacts.
 -- Assumes nothing.
 use borrow.Author.Needs.{needs}
-use Prim.Native.Nat.{ℕ, _+_, _*_}
-use mathlib.Core.Path.{_≡_, refl, sym, ap, _∙_}
-use mathlib.Core.Bool.{false}
-use mathlib.Core.List.{List, _++_}
+use mathlib.Core.Path.{refl}
 use native.Mathlib.Omega.{arith}
-use lib.ListN.{length}
 use Rattle.slices.proofs.Laws.{writes-bytes, writes-none, writes-done}
 use Rattle.slices.proofs.Tails.{wrote-second}
-use Rattle.formats.specs.Format.{got, times}
-use Rattle.formats.proofs.Laws.{series-length}
-use Rattle.fields.specs.Integers.{strict}
 use Rattle.house.specs.Layout.{headBytes}
-use Rattle.house.specs.declared.Head.{Head}
-use Rattle.house.specs.declared.Contact.{Contact}
 use Rattle.house.proofs.Round.{length-head}
-use Rattle.touch.specs.Touch.{contact, contactsBytes}
+use Rattle.touch.specs.Touch.{contactsBytes}
 use Rattle.frame_records.proofs.Laws.{length-written}
 use Rattle.frame_records.proofs.write.write_frame.Statement.{statement}
 use Rattle.frame_records.proofs.write.write_frame.Tie as tie

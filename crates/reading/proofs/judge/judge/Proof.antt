@@ -14,7 +14,6 @@ use Rattle.messages.specs.Header as event
 use Rattle.messages.proofs.Laws.{message-refused, message-low, message-body}
 use Rattle.touch.specs.Touch.{touch, body}
 use Rattle.reading.specs.Plain.{plainly}
-use Rattle.reading.specs.Passes.{Judges}
 use Rattle.reading.proofs.Judging.{body-refused, body-inside, body-read}
 use Rattle.reading.proofs.judge.judge.Statement.{statement}
 use Rattle.reading.proofs.judge.judge.Tie as tie

@@ -1,26 +1,29 @@
--- What every move keeps: that a contact out of range has position 0, 0. And how a dismissal changes the number of active contacts.
+-- What every move keeps: that there are 256 contacts, and that one out of range has position 0, 0. And how a dismissal changes the number of active contacts.
 -- Assumes nothing.
-use Prim.Native.Nat.{ℕ, _+_, _≤_, _<_}
-use mathlib.Core.Path.{_≡_, refl, sym, ap, _∙_}
+use Prim.Native.Nat.{ℕ, zero, suc, _+_, _≤_, _<_}
+use mathlib.Core.Path.{_≡_, refl, sym, _∙_}
 use mathlib.Core.Bool.{Bool, true, false, cond}
 use mathlib.Core.List.{List, [], _∷_}
 use native.Mathlib.Decide.{ℕ-discrete}
 use native.Mathlib.Omega.{arith}
 use borrow.Author.Tests.{eq-eqb, ltb-true, ltb-false}
 use lib.Dec.{eqb, leb, ltb}
-use lib.ListN.{length, getD, List·getD-eq-default}
+use lib.ListN.{length, List·getD-eq-default}
 use lib.Seq.{set-out}
+use Rattle.formats.specs.Format.{Got, got, bad}
+use Rattle.fields.specs.Integers.{strict}
 use Rattle.states.specs.Table.{out, hovering}
 use Rattle.house.specs.declared.Point.{Point}
 use Rattle.house.specs.declared.Contact.{Contact}
-use Rattle.touch.specs.Touch.{Frame}
+use Rattle.touch.specs.Touch.{Frame, contact}
 use Rattle.contacts.specs.Table.{Table, contacts, stateAt, placeAt, withContact, origin, resting, countActive}
 use Rattle.contacts.specs.Conforms.{Rules, nextOf, placeIn, moved, after}
 use Rattle.contacts.specs.Machine.{Machine, Verdict, injected, ignored, cancelled, verdict, machineAfter, stepMachine, runMachine, dismissTable, dismissBytes}
+use Rattle.contacts.specs.Ruling.{rulesOf}
 use Rattle.contacts.proofs.Table.{Whole, state-same, place-same, state-other, place-other, resting-place, count-set}
 use Rattle.contacts.proofs.Conforms.{moved-whole}
 use Rattle.contacts.proofs.Machine.{dismiss-table, dismiss-whole, step-whole}
-use Rattle.moves.specs.Moves.{dismissedIn}
+use Rattle.moves.specs.Moves.{onRead, afterRead, Applies, dismissedIn}
 
 -- "A contact out of range has position 0, 0."
 pub record Placed (t : Table) : Type 0 where
@@ -78,6 +81,26 @@ module _ (rules : Rules) where
   unfolding runMachine
   run-placed m [] w h = h
   run-placed m (f ∷ fs) w h = run-placed (stepMachine rules m f) fs (step-whole rules m f w) (step-placed m f w h)
+
+-- the same of contacts as they are read, however many can be
+module _ (rules : Rules) (P : Table → Type 0) (keeps : (t : Table) (c : Contact) → P t → P (moved rules t c)) where
+  read-keeps : (n : ℕ) (t : Table) (l : List ℕ) → P t → P (afterRead rules n t l)
+  unfolding afterRead
+  read-keeps zero t l h = h
+  read-keeps (suc n) t l h = go (contact strict .read l) (read-keeps n)
+    where
+      go : (x : Got Contact) → ((u : Table) (m : List ℕ) → P u → P (afterRead rules n u m)) → P (onRead t (λ c m. afterRead rules n (moved rules t c) m) x)
+      go (got c m) r = r (moved rules t c) m (keeps t c h)
+      go (bad e) r = h
+
+module _ (n : ℕ) (l : List ℕ) (t u : Table) (a : Applies n l t u) where
+  pub applies-whole : Whole t → Whole u
+  applies-whole w = rw (a .table 0) (read-keeps (rulesOf 0) Whole (moved-whole (rulesOf 0)) n t l w)
+
+  pub applies-placed : Whole t → Placed t → Placed u
+  applies-placed w h =
+      let k = read-keeps (rulesOf 0) (λ v. Whole v × Placed v) (λ v c q. (moved-whole (rulesOf 0) v c (q .0), moved-placed (rulesOf 0) v c (q .0) (q .1))) n t l (w, h) in
+      rw (a .table 0) (k .1)
 
 -- ---- dismissals
 

@@ -1,7 +1,7 @@
 -- What a frame's contacts leave of the table, as a loop reads them, and that it is what the frame leaves where they can all be read.
 -- Assumes nothing.
 use Prim.Native.Nat.{ℕ, zero, suc, _-_, _≤_, _<_}
-use mathlib.Core.Path.{_≡_, refl, sym, ap, _∙_}
+use mathlib.Core.Path.{_≡_, refl, ap, _∙_}
 use mathlib.Core.List.{List, [], _∷_}
 use native.Mathlib.Numerals.{sub-one}
 use native.Mathlib.Omega.{arith}
@@ -14,7 +14,7 @@ use Rattle.states.specs.Table.{out}
 use Rattle.house.specs.declared.Contact.{Contact}
 use Rattle.touch.specs.Touch.{contact}
 use Rattle.contacts.specs.Table.{Table, withContact, origin}
-use Rattle.contacts.specs.Conforms.{Rules, nextOf, placeIn, moved, after}
+use Rattle.contacts.specs.Conforms.{Rules, nextOf, moved, after}
 use Rattle.contacts.specs.Ruling.{contactsOf, rulesOf}
 use Rattle.moves.specs.Moves.{onRead, afterRead, Moves, Applies}
 
@@ -58,7 +58,7 @@ same : {A : Type 0} (a b : A) (l m : List ℕ) → got a l ≡ got b m → a ≡
 same a b l m h = cc
 
 module _ (rules : Rules) where
-  abbrev Leads : ℕ → Type 0
+  abbrev pub Leads : ℕ → Type 0
   Leads n = (t : Table) (l : List ℕ) (cs : List Contact) (rest : List ℕ) → contactsOf n l ≡ got cs rest → afterRead rules n t l ≡ after rules t cs
 
   one-more : (n : ℕ) → Leads n → Leads (suc n)

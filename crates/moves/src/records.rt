@@ -17,8 +17,11 @@ ghost use Rattle.moves.specs.Moves.{Dismisses};
 fn stored_contact(flags: u8, id: u8, xs: &[i32; 256], ys: &[i32; 256]) -> Contact
     ensures { λ r. ⌜ r ≡ stored flags id (placeAt (tableOf [] (now (xs .entry)) (now (ys .entry))) id) ⌝ }
 {
-    let i = id as usize;
-    let place = Point { x: xs[i], y: ys[i] };
+    let at = id as usize;
+    let place = Point {
+        x: xs[at],
+        y: ys[at],
+    };
     let sides = Sides {
         left: 0,
         top: 0,

@@ -5,12 +5,12 @@ use Prim.Native.Nat.{ℕ, _≤_, _+_, _-_, _*_}
 use mathlib.Core.Path.{_≡_, refl, sym, ap, _∙_}
 use native.Mathlib.Omega.{arith}
 use native.Mathlib.Nat.{zero-add}
-use lib.ListN.{length, take, drop, length-append, length-take, length-drop}
+use lib.ListN.{length, length-append, length-take, length-drop}
 use borrow.Rule.Slice.PartMut.{midOf}
 use Rattle.slices.specs.Writing.{laid}
 use Rattle.slices.proofs.Laws.{writes-bytes, writes-none, Done, writes-done}
 use Rattle.slices.proofs.Tails.{laidAt, laid-none, Wrote, wrote}
-use Rattle.contacts.specs.Table.{Table, contacts}
+use Rattle.contacts.specs.Table.{contacts}
 use Rattle.contacts.specs.Machine.{cancelBytes, cancelsFrom, cancels}
 use Rattle.contacts.specs.Ruling.{tableOf}
 use Rattle.contacts.proofs.Machine.{cancels-step, cancels-end, cancels-from-length}

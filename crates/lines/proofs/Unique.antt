@@ -9,7 +9,7 @@ use native.Mathlib.Omega.{arith}
 use lib.Dec.{lit<, ltb}
 use borrow.Author.Tests.{ltb-true, ltb-false}
 use Rattle.io.specs.Digits.{Fewest, digits}
-use Rattle.lines.specs.Page.{Added, AddedNumber}
+use Rattle.lines.specs.Page.{Added, AddedNumber, AddedCut, cutWord}
 
 pub added-unique : (s : List ℕ) (at m n : ℕ) (before after after′ : List ℕ) → Added s at m before after → Added s at n before after′ → (m ≡ n) × (after ≡ after′)
 added-unique s at m n b a a′ h k = (h .place ∙ sym (k .place), h .page ∙ sym (k .page))
@@ -35,3 +35,9 @@ added-number-unique v at m n b a a′ h k =
     let e : k .count ≡ h .count = fewest-one v (k .count) (h .count) (k .fewest) (h .fewest) in
     let t : Added (digits 10 (h .count) v) at n b a′ = rw e at (k .added) in
     added-unique (digits 10 (h .count) v) at m n b a a′ (h .added) t
+
+pub added-cut-unique : (v at m n : ℕ) (before after after′ : List ℕ) → AddedCut v at m before after → AddedCut v at n before after′ → (m ≡ n) × (after ≡ after′)
+added-cut-unique v at m n b a a′ h k =
+    let (e, f) = added-number-unique v at (k .middle) (h .middle) b (k .page) (h .page) (k .number) (h .number) in
+    let t : Added cutWord (h .middle) n (h .page) a′ = rw (e, f) at (k .word) in
+    added-unique cutWord (h .middle) m n (h .page) a a′ (h .word) t

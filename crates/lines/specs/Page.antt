@@ -29,3 +29,15 @@ pub record AddedNumber (n at next : ℕ) (before after : List ℕ) : Type 0 wher
 -- a byte in hexadecimal
 abbrev pub hexOf : ℕ → List ℕ
 hexOf b = glyph (b / 16) ∷ glyph (b % 16) ∷ []
+
+-- " cut" and the end of the line
+abbrev pub cutWord : List ℕ
+cutWord = 32 ∷ 99 ∷ 117 ∷ 116 ∷ 10 ∷ []
+
+-- a number, and then the word
+pub record AddedCut (n at next : ℕ) (before after : List ℕ) : Type 0 where
+  pub middle : ℕ
+  pub page : List ℕ
+  pub number : AddedNumber n at middle before page
+  pub word : Added cutWord middle next page after
+  pub long : length after ≡ length before

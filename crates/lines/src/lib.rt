@@ -2,7 +2,7 @@
 ghost use mathlib.Core.Path.{_≡_};
 ghost use Prim.Native.Nat.{_<_, _≤_};
 ghost use mathlib.Core.List.{[], _∷_};
-ghost use Rattle.lines.specs.Page.{Added, AddedNumber, hexOf};
+ghost use Rattle.lines.specs.Page.{Added, AddedNumber, AddedCut, hexOf};
 ghost use Rattle.io.specs.Digits.{glyph as glyphOf};
 
 // Adds text at a place of a page, and answers the place after it; where there is no room the page stays as it was.
@@ -50,6 +50,14 @@ fn glyph(digit: u8) -> u8
     ensures { λ r. ⌜ r ≡ glyphOf digit ⌝ }
 {
     if digit < 10 { 48 + digit } else { 87 + digit }
+}
+
+// Adds the line of an entry that is cut: its number and the word.
+pub fn add_cut(page: &mut [u8], at: usize, number: u64) -> usize
+    ensures { λ r. ⌜ AddedCut number at r (now (page .entry)) (now (page .exit)) ⌝ }
+{
+    let next = add_number(page, at, number);
+    add_text(page, next, b" cut\n")
 }
 
 // Writes a page out up to a place within it, and answers the place to go on from: its beginning.

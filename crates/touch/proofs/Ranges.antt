@@ -83,7 +83,7 @@ pub record ContactRead (c : Contact) : Type 0 where
   pub well : contactWell c ≡ true
   pub range : InRange c
 
-contact-fits : (c : Contact) → contact strict .Holds c → ContactFits c
+pub contact-fits : (c : Contact) → contact strict .Holds c → ContactFits c
 unfolding contact point optional
 contact-fits c h =
     let present = h .1 .0 in
@@ -108,7 +108,7 @@ contact-fits c h =
       pressure = omega arith;
     }
 
-contact-well : (c : Contact) → contact strict .Holds c → contactWell c ≡ true
+pub contact-well : (c : Contact) → contact strict .Holds c → contactWell c ≡ true
 unfolding contact point optional contactWell all
 contact-well c h =
     let place = h .1 .1 .0 in
@@ -137,7 +137,7 @@ offset-holds : (judged : Bool) (o : ℕ) → offset strict judged .Holds o → o
 offset-holds true o h = h .0
 offset-holds false o h = h
 
-frame-holds : (judged : Bool) (f : Frame) → frame strict judged .Holds f → HeadFits (headOf f)
+pub frame-holds : (judged : Bool) (f : Frame) → frame strict judged .Holds f → HeadFits (headOf f)
 unfolding frame frameHead
 frame-holds judged f h =
     let n = leb-true (length (f .contacts)) 63 (h .0 .0 .1) in

@@ -1,0 +1,58 @@
+-- What is no path: records that the definition of a legal path turns down, and the nearest ones that it takes.
+-- Assumes nothing.
+use Prim.Native.Nat.{ℕ}
+use mathlib.Core.Path.{_≡_, refl}
+use mathlib.Core.List.{List, [], _∷_}
+use lib.IntN.{pos}
+use Rattle.states.specs.Table.{next, placeOf, from, out}
+use Rattle.house.specs.declared.Record.{Record}
+use Rattle.house.specs.declared.Record.the-variants as Record
+use Rattle.contacts.specs.Table.{origin}
+use Rattle.contacts.specs.Conforms.{sameNumber}
+use Rattle.contacts.specs.Machine.{stored}
+use Rattle.receiver.specs.History.{Path, at, broken, pathStep, path}
+
+-- a record of contact 1
+abbrev one : ℕ → ℕ → ℕ → ℕ → Record
+one kind flags x y = Record.Contact kind (stored flags 1 (record { x = pos x; y = pos y }))
+
+-- the path of contact 1 from out of range
+abbrev walked : List Record → Path
+walked xs = path 1 xs out origin
+
+-- an update of a contact that is out of range
+update-first : walked (one 1 0x1A 100 50 ∷ []) ≡ broken
+unfolding path pathStep next placeOf from
+update-first = refl
+
+-- down and up at one place; at two
+down-and-up : walked (one 1 0x19 100 50 ∷ one 1 0x04 100 50 ∷ []) ≡ at out origin
+unfolding path pathStep next placeOf from sameNumber
+down-and-up = refl
+
+lift-elsewhere : walked (one 1 0x19 100 50 ∷ one 1 0x04 101 50 ∷ []) ≡ broken
+unfolding path pathStep next placeOf from sameNumber
+lift-elsewhere = refl
+
+-- a cancel of a hovering contact; elsewhere; as of an engaged one
+cancel-hovering : walked (one 1 0x0A 7 8 ∷ one 2 0x22 7 8 ∷ []) ≡ at out origin
+unfolding path pathStep next placeOf from sameNumber
+cancel-hovering = refl
+
+cancel-elsewhere : walked (one 1 0x0A 7 8 ∷ one 2 0x22 7 9 ∷ []) ≡ broken
+unfolding path pathStep next placeOf from sameNumber
+cancel-elsewhere = refl
+
+cancel-as-engaged : walked (one 1 0x0A 7 8 ∷ one 2 0x24 7 8 ∷ []) ≡ broken
+unfolding path pathStep next placeOf from sameNumber
+cancel-as-engaged = refl
+
+-- a dismissal of an engaged contact
+dismiss-engaged : walked (one 1 0x19 7 8 ∷ one 3 0x02 7 8 ∷ []) ≡ broken
+unfolding path pathStep next placeOf from sameNumber
+dismiss-engaged = refl
+
+-- what is no record
+not-whole : walked (Record.Refused 14 ∷ []) ≡ broken
+unfolding path pathStep
+not-whole = refl

@@ -1,0 +1,75 @@
+-- Every head and every contact of a touch message that is read fits its record.
+-- Assumes nothing.
+use Prim.Native.Nat.{ℕ, zero, suc}
+use mathlib.Core.Path.{_≡_, refl}
+use mathlib.Core.Bool.{Bool, true, false, cond}
+use mathlib.Core.List.{List, [], _∷_, map}
+use lib.Dec.{lit<}
+use Rattle.digits.specs.Digits.{Bytes}
+use Rattle.formats.specs.Format.{Got, got, bad, Format, readSeries}
+use Rattle.formats.proofs.Laws.{Sound, never, more-got}
+use Rattle.fields.specs.Integers.{strict}
+use Rattle.fields.proofs.Laws.{strict-law}
+use Rattle.house.specs.Fits.{HeadFits, ContactFits}
+use Rattle.touch.specs.Touch.{Frame, Touch, headOf, contact, frame, touchHead, touch, body}
+use Rattle.touch.specs.declared.TouchHead.{TouchHead}
+use Rattle.touch.proofs.Laws.{contact-law, frame-head-law, frame-law, touch-head-law}
+use Rattle.touch.proofs.Passes.{body-got, frame-got}
+use Rattle.touch.proofs.Ranges.{contact-read, frame-fits}
+use Rattle.receiver.specs.declared.Receiver.{Receiver}
+use Rattle.receiver.specs.Receive.{untimed, withoutOffset, framesFor}
+
+-- each of a list
+abbrev pub All : {A : Type 0} → (A → Type 0) → List A → Type 0
+All P [] = Unit
+All P (a ∷ l) = P a × All P l
+
+-- a frame whose records hold it
+pub record FrameFits (f : Frame) : Type 0 where
+  pub head : HeadFits (headOf f)
+  pub contacts : All ContactFits (f .contacts)
+
+module _ {A : Type 0} (f : Bool → Format A) (P : A → Type 0) (sound : (b : Bool) → Sound (f b))
+    (each : (b : Bool) (l : List ℕ) (a : A) (t : List ℕ) → Bytes l → f b .read l ≡ got a t → P a) where
+  all-read : (first : Bool) (n : ℕ) (l : List ℕ) (s : List A) (t : List ℕ) → Bytes l → readSeries (λ b. f b .read) first n l ≡ got s t → All P s
+  unfolding readSeries
+  all-read first zero l s t hl e = let z : s ≡ [] = cc in rw z tt
+  all-read first (suc n) l s t hl e =
+      let m = more-got f first n l s t e in
+      rw (m .all) (each first l (m .head) (m .after) hl (m .one), all-read false n (m .after) (m .rest) t (sound first l (m .head) (m .after) hl (m .one) .1) (m .others))
+
+frame-read : (judged : Bool) (l : List ℕ) (f : Frame) (t : List ℕ) → Bytes l → frame strict judged .read l ≡ got f t → FrameFits f
+frame-read judged l f t hl e =
+    let g = frame-got judged l f t e in
+    let ha = frame-head-law strict strict-law judged .sound l (headOf f) (g .after) hl (g .head) .1 in
+    record {
+      head = frame-fits judged l f t hl e;
+      contacts =
+          all-read (λ b. contact strict) ContactFits (λ b. contact-law strict strict-law .sound) (λ b l c t hl e. contact-read l c t hl e .fits)
+          false _ (g .after) (f .contacts) t ha (g .contacts);
+    }
+
+pub body-fits : (judged : Bool) (l : List ℕ) (m : Touch) (t : List ℕ) → Bytes l → body strict judged l ≡ got m t → All FrameFits (m .frames)
+unfolding touch
+body-fits judged l m t hl e = go (touchHead strict .read l) refl
+  where
+    go : (x : Got TouchHead) → touchHead strict .read l ≡ x → All FrameFits (m .frames)
+    go (bad n) h = never n m t (rw h at e)
+    go (got k after) h =
+        let b = body-got judged l m t k after e h in
+        let ha = touch-head-law strict strict-law .sound l k after hl h .1 in
+        all-read (frame strict) FrameFits (λ b. frame-law strict strict-law b .sound) frame-read judged (k .frames) after (m .frames) [] ha (b .frames)
+
+-- also with offset 0
+without-fits : (fs : List Frame) → All FrameFits fs → All FrameFits (map withoutOffset fs)
+without-fits [] h = tt
+without-fits (f ∷ fs) h =
+    (record { head = record { count = h .0 .head .count; offset = lit< tt }; contacts = h .0 .contacts }, without-fits fs (h .1))
+
+pub frames-fit : (r : Receiver) (fs : List Frame) → All FrameFits fs → All FrameFits (framesFor r fs)
+unfolding framesFor
+frames-fit r fs h = go (untimed r)
+  where
+    go : (b : Bool) → All FrameFits (cond b (map withoutOffset fs) fs)
+    go true = without-fits fs h
+    go false = h

@@ -1,0 +1,138 @@
+-- The sentences on every history of a receiver: any messages, lent any room, refused ones among them.
+-- Assumes nothing.
+use Prim.Native.Nat.{ℕ, _+_, _≤_, _<_}
+use mathlib.Core.Path.{_≡_, _∙_}
+use mathlib.Core.Bool.{true, false}
+use mathlib.Core.List.{List, [], _∷_, _++_}
+use lib.ListN.{length}
+use Rattle.paper.specs.Refusals.{none}
+use Rattle.paper.specs.declared.Milliseconds.{Milliseconds}
+use Rattle.digits.specs.Digits.{Bytes}
+use Rattle.slices.specs.Writing.{laid, given}
+use Rattle.formats.specs.Format.{got}
+use Rattle.states.specs.Table.{out, engaged}
+use Rattle.touch.specs.Touch.{Frame}
+use Rattle.contacts.specs.Table.{contacts, stateAt, placeAt, origin, countActive, resting}
+use Rattle.contacts.specs.Conforms.{Rules}
+use Rattle.contacts.specs.Machine.{Machine, cancelled, verdict, cancels, stepMachine, runMachine, runBytes}
+use Rattle.contacts.proofs.Table.{Whole, resting-state}
+use Rattle.contacts.proofs.Machine.{cancelled-machine}
+use Rattle.receiver.specs.Receive.{off, fresh, effect, draftOf, Receives}
+use Rattle.receiver.specs.declared.Receiver.{Receiver}
+use Rattle.receiver.specs.declared.Answer.{Answer}
+use Rattle.receiver.specs.History.{Sent, OfBytes, messagesOf, next, answerTo, wrote, after, written, Roomy, tableOf, touchIn, framesTaken, opens, unopened, Unopened, rested, machineAt, bytesAt, messageOf, Cut, AsRested, CancelledAfter, NoneActive, Silent, Unchanged, recordsIn, path, at}
+use Rattle.receiver.proofs.Steadiness.{none-active-rests}
+use Rattle.receiver.proofs.Invariants.{history-kept, answer-counts}
+use Rattle.receiver.proofs.Quiet.{quiet-bytes, quiet-machine, cancel-bytes, cancel-machine, after-quiet, since-cancel}
+use Rattle.receiver.proofs.Rested.{as-rested}
+use Rattle.receiver.proofs.Cutting.{rest-of-message}
+use Rattle.receiver.proofs.Paths.{legal-path}
+use Rattle.receiver.proofs.Refusing.{left-laid, refusal-changes-nothing, refused-as-none}
+
+-- ---- HISTORIES ARE THOSE OF THE CONTRACT
+
+-- A step that the contract allows leaves, answers and writes what its message does in a history.
+pub a-step-of-the-contract-is-a-step-of-a-history : (r : Receiver) (message before : List ℕ) (q : Receiver) (a : Answer) (after : List ℕ) → Receives r message before q a after
+    → let x : Sent = record { message = message; room = length before } in (q ≡ next r x) × (a ≡ answerTo r x) × (after ≡ laid before (wrote r x))
+unfolding next answerTo wrote
+a-step-of-the-contract-is-a-step-of-a-history r message before q a after h =
+    (h .kept, h .answered, h .output ∙ left-laid before (given (length before) (draftOf (effect r message))))
+
+-- ---- WHAT IS ALWAYS TRUE
+
+-- All 256 contacts are there.
+pub no-contact-is-lost : (h : List Sent) → OfBytes h → Whole (tableOf (after fresh h))
+no-contact-is-lost h b = history-kept h b .machine .table .whole
+
+-- Each is out of range, hovering or engaged.
+pub every-contact-is-in-one-of-three-states : (h : List Sent) → OfBytes h → (id : ℕ) → stateAt (tableOf (after fresh h)) id ≤ engaged
+every-contact-is-in-one-of-three-states h b = history-kept h b .machine .table .states
+
+-- A receiver that ignores has no active contact.
+pub ignoring-means-no-active-contact : (h : List Sent) → OfBytes h → off (after fresh h .ignoring) ≡ false → NoneActive (tableOf (after fresh h))
+ignoring-means-no-active-contact h b e id = rw (history-kept h b .machine .ignoring e) (resting-state id)
+
+-- "A contact out of range has position 0, 0."
+pub out-of-range-means-position-zero : (h : List Sent) → OfBytes h → (id : ℕ) → stateAt (tableOf (after fresh h)) id ≡ out → placeAt (tableOf (after fresh h)) id ≡ origin
+out-of-range-means-position-zero h b = history-kept h b .machine .table .places
+
+-- So where no contact is active the table is that of a fresh receiver.
+pub no-active-contact-means-the-resting-table : (h : List Sent) → OfBytes h → NoneActive (tableOf (after fresh h)) → tableOf (after fresh h) ≡ resting
+no-active-contact-means-the-resting-table h b = none-active-rests (tableOf (after fresh h)) (history-kept h b .machine .table)
+
+-- "The three counts add up to frameCount", of any receiver and of any message that it accepts; without frames, or refused, they are 0.
+pub counts-add-up-to-frame-count : (r : Receiver) (x : Sent) → answerTo r x .injected + answerTo r x .ignored + answerTo r x .cancelled ≡ length (framesTaken r x)
+counts-add-up-to-frame-count = answer-counts
+
+-- "at most maxTouchContacts contacts are active"
+pub at-most-maxTouchContacts-active : (h : List Sent) → OfBytes h → countActive (after fresh h .states) ≤ after fresh h .settings .most
+at-most-maxTouchContacts-active h b = history-kept h b .machine .few
+
+-- ---- "EACH CONTACT'S RECORDS ARE A LEGAL PATH THROUGH THE THREE STATES FROM OUT OF RANGE"
+
+-- The records of each id in all that was written, from out of range at 0, 0: each is legal where the one before it led, at the stored position
+-- where it has to be; and the path ends where the receiver has that contact.
+pub each-contact's-records-are-a-legal-path : (id : ℕ) → id < contacts → (h : List Sent) → OfBytes h
+    → path id (recordsIn (written fresh h)) out origin ≡ at (stateAt (tableOf (after fresh h)) id) (placeAt (tableOf (after fresh h)) id)
+each-contact's-records-are-a-legal-path = legal-path
+
+-- ---- "AFTER A CANCEL'S OWN RECORDS NOTHING IS WRITTEN UNTIL AN OPENING FRAME"
+
+-- Every cancelled frame leaves all contacts out of range, and the mode ignoring.
+pub a-cancelled-frame-leaves-rest-and-ignoring : (rules : Rules) (m : Machine) (f : Frame) → verdict rules m (f .contacts) ≡ cancelled → stepMachine rules m f ≡ record { table = resting; running = false }
+a-cancelled-frame-leaves-rest-and-ignoring = cancelled-machine
+
+-- Frames none of which opens leave a machine that ignores as it is, and write nothing.
+pub frames-that-do-not-open-are-ignored : (rules : Rules) (m : Machine) (fs : List Frame) → m .running ≡ false → unopened fs ≡ true → (runBytes rules m fs ≡ []) × (runMachine rules m fs ≡ m)
+frames-that-do-not-open-are-ignored rules m fs h u = (quiet-bytes rules m fs h u, quiet-machine rules m fs h u)
+
+-- Within a message: after the frames fs, the cancelled frame f writes its records; the frames gs, none of which opens, write nothing; and the
+-- frames hs after them are as to a machine at rest that ignores.
+pub after-a-cancelled-frame-nothing-until-an-opening-one : (rules : Rules) (m : Machine) (fs : List Frame) (f : Frame) (gs hs : List Frame)
+    → verdict rules (runMachine rules m fs) (f .contacts) ≡ cancelled → unopened gs ≡ true
+    → let rest : Machine = record { table = resting; running = false } in
+    (runBytes rules m (fs ++ (f ∷ (gs ++ hs))) ≡ (runBytes rules m fs ++ cancels (runMachine rules m fs .table)) ++ runBytes rules rest hs)
+    × (runMachine rules m (fs ++ (f ∷ (gs ++ hs))) ≡ runMachine rules rest hs)
+after-a-cancelled-frame-nothing-until-an-opening-one rules m fs f gs hs v u = (cancel-bytes rules m fs f gs hs v u, cancel-machine rules m fs f gs hs v u)
+
+-- Over messages: a receiver that ignores and has no active contact writes nothing, dismissals included, and stays so, as long as no opening
+-- frame is accepted.
+pub a-silent-receiver-writes-nothing-until-an-opening-frame : (r : Receiver) (h : List Sent) → Silent r → Unopened r h → (written r h ≡ []) × Silent (after r h)
+a-silent-receiver-writes-nothing-until-an-opening-frame r h k u = (after-quiet r h k u .nothing, after-quiet r h k u .still)
+
+-- Both: of an accepted message x with the frames fs, f, gs, where f is cancelled and none of gs opens, and of all messages after it, as long as
+-- no opening frame is accepted, nothing is written but the records of fs and the cancel's own.
+pub after-a-cancel-nothing-until-an-opening-frame : (r : Receiver) (x : Sent) (h : List Sent) (fs : List Frame) (f : Frame) (gs : List Frame)
+    → framesTaken r x ≡ fs ++ (f ∷ gs) → CancelledAfter r fs f → unopened gs ≡ true → Unopened (next r x) h
+    → (written r (x ∷ h) ≡ bytesAt r fs ++ cancels (machineAt r fs .table)) × Silent (after r (x ∷ h))
+after-a-cancel-nothing-until-an-opening-frame r x h fs f gs e v u k =
+    let s = since-cancel r x h fs f gs e v u k in
+    (s .own, s .silent)
+
+-- ---- "FROM ANY OPENING FRAME ACCEPTED WHILE NO CONTACT IS ACTIVE, THE RECORDS AND THE CONTACT TABLE ARE THOSE OF A RESTED RECEIVER WITH THE
+-- SAME SETTINGS GIVEN THAT FRAME AND ALL THAT FOLLOWS, AS LONG AS NEITHER IS REFUSED FOR LACK OF ROOM"
+
+-- r is the receiver after any history. Its next message x has the opening frame f, before which no contact is active, in either mode; the
+-- rested receiver gets y instead, which begins with f; then both get the same messages, each lent whatever room.
+pub from-an-opening-frame-as-if-rested : (h : List Sent) → OfBytes h → let r : Receiver = after fresh h in
+    (x y : Sent) → Bytes (x .message) → (fs : List Frame) (f : Frame) (gs : List Frame) → Cut r x y fs f gs → opens f ≡ true → NoneActive (machineAt r fs .table)
+    → (more others : List Sent) → messagesOf more ≡ messagesOf others → Roomy r (x ∷ more) → Roomy (rested (r .settings)) (y ∷ others)
+    → AsRested r x y fs more others
+from-an-opening-frame-as-if-rested h b = as-rested (after fresh h) (history-kept h b)
+
+-- There always is such a y: the message of the same encodeTime and the frames from f on.
+pub a-rested-receiver-can-be-given-that-frame : (r : Receiver) (x : Sent) → Bytes (x .message) → (time : Milliseconds) (fs : List Frame) (f : Frame) (gs : List Frame)
+    → touchIn r (x .message) ≡ got (record { time = time; frames = fs ++ (f ∷ gs) }) []
+    → (room : ℕ) → Cut r x (record { message = messageOf (record { time = time; frames = f ∷ gs }); room = room }) fs f gs
+a-rested-receiver-can-be-given-that-frame r x b time fs f gs e room =
+    record { time = time; whole = e; part = rest-of-message r (x .message) b time fs (f ∷ gs) e }
+
+-- ---- "A REFUSAL ANSWERS ITS NUMBER WITH ALL OTHER FIELDS 0; THE RECEIVER .. AND THE OUTPUT STAY AS THEY WERE"
+
+-- Of any step that the contract allows.
+pub a-refusal-changes-nothing : (r : Receiver) (message before : List ℕ) (q : Receiver) (a : Answer) (after : List ℕ) → Receives r message before q a after → (a .refusal ≡ none → ⊥) → Unchanged r before q a after
+a-refusal-changes-nothing = refusal-changes-nothing
+
+-- So a refused message of a history is as none.
+pub a-refused-message-is-as-none : (r : Receiver) (x : Sent) → (answerTo r x .refusal ≡ none → ⊥) → (next r x ≡ r) × (wrote r x ≡ [])
+a-refused-message-is-as-none = refused-as-none

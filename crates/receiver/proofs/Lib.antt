@@ -1,0 +1,17 @@
+-- How the code meets its contracts.
+pub mod Answering
+pub mod Bodies
+pub mod Touching
+pub mod Unique
+-- What is true of a receiver, of one message and of every history.
+pub mod Became
+pub mod Fitting
+pub mod Steadiness
+pub mod Invariants
+pub mod Quiet
+pub mod Rested
+pub mod Cutting
+pub mod Paths
+mod Broken
+pub mod Refusing
+pub mod Histories

@@ -1,0 +1,154 @@
+-- Touch messages: their frames counted, and carried out where there is room.
+-- Assumes nothing.
+use Prim.Native.Nat.{ℕ, _-_, _*_, _/_, _≤_, _<_}
+use mathlib.Core.Path.{_≡_, refl, sym, ap, _∙_}
+use mathlib.Core.Bool.{Bool, true, false, cond, not}
+use mathlib.Core.List.{List, [], _∷_}
+use native.Mathlib.Omega.{arith}
+use borrow.Author.Tests.{ne-eqb}
+use lib.ListN.{length, take, drop}
+use Rattle.paper.specs.Refusals.{none, noRoom}
+use Rattle.paper.specs.declared.Milliseconds.{Milliseconds}
+use Rattle.slices.specs.Writing.{laid}
+use Rattle.formats.specs.Format.{Got, got, bad, readSeries}
+use Rattle.formats.proofs.Laws.{never}
+use Rattle.formats.proofs.Steps.{tail}
+use Rattle.fields.specs.Integers.{strict}
+use Rattle.touch.specs.Touch.{Frame, Touch, touchHeadOf, body}
+use Rattle.touch.specs.Answer.{summary, checkedGot, checkedRefusal, Checks}
+use Rattle.touch.specs.declared.TouchHead.{TouchHead}
+use Rattle.touch.specs.declared.CheckedBody.{CheckedBody}
+use Rattle.touch.specs.declared.CheckedBody.the-variants as CheckedBody
+use Rattle.touch.proofs.Passes.{frameBy, frames-freed, Checked, checked}
+use Rattle.contacts.specs.Table.{Table}
+use Rattle.contacts.specs.Machine.{Machine, Counts, runBytes}
+use Rattle.contacts.specs.Ruling.{Counted}
+use Rattle.runs.specs.Runs.{timedFrames, Ran, Runs}
+use Rattle.runs.specs.declared.Run.{Run}
+use Rattle.receiver.specs.declared.Receiver.{Receiver}
+use Rattle.receiver.specs.declared.Answer.{Answer}
+use Rattle.receiver.specs.declared.Received.{Received}
+use Rattle.receiver.specs.Receive.{off, mark, rulesOf, machineOf, untimed, judged, framesFor, timeFor, begunAfter, touched, refusal, answerOf}
+use Rattle.receiver.specs.Events.{begunBy, answerTo, Gives, touchEffect, Tallies, Carried, Carries}
+use Rattle.receiver.proofs.Answering.{gives-refused, gives-none, gives-done}
+
+-- ---- the frames as a run takes them, and as the receiver's definition does
+
+pub frames-timed : (r : Receiver) (fs : List Frame) → timedFrames (untimed r) fs ≡ framesFor r fs
+unfolding timedFrames framesFor
+frames-timed r fs = refl
+
+frames-same : (r : Receiver) (un : Bool) → un ≡ untimed r → (fs : List Frame) → timedFrames un fs ≡ framesFor r fs
+frames-same r un e fs = ap (λ (b : Bool). timedFrames b fs) e ∙ frames-timed r fs
+
+bytes-of : (r : Receiver) (m : Touch) → touched r m .bytes ≡ runBytes (rulesOf r) (machineOf r) (framesFor r (m .frames))
+unfolding touched
+bytes-of r m = refl
+
+begun-is : (r : Receiver) (fs : List Frame) → begunBy (r .begun) (length fs) ≡ begunAfter r fs
+begun-is r [] = refl
+begun-is r (f ∷ fs) = rw (ne-eqb (length (f ∷ fs)) 0 (λ e. omega arith))
+
+quotient : (k n : ℕ) → 21 * k ≡ n → k ≡ n / 21
+quotient k n e = omega arith
+
+module _ (r : Receiver) (l : List ℕ) (un : Bool) (eu : un ≡ untimed r) (active : ℕ) (a : Counted active (r .states)) (run : Run) (u : Table) (before after : List ℕ) where
+  -- ---- counted
+
+  pub tallies : (n : ℕ) → Runs n l un false (off (r .ignoring)) (r .settings .most) active run (machineOf r .table) u before after → Tallies r n l (run .records) before after
+  tallies n x =
+      record {
+        small = x .small;
+        count = λ fs rest e. x .ran fs rest e a .records ∙ ap (λ (gs : List Frame). length (runBytes (rulesOf r) (machineOf r) gs)) (frames-same r un eu fs);
+        kept = λ fs rest e. x .ran fs rest e a .output .kept refl;
+      }
+
+  -- ---- carried out
+
+  module _ (h : TouchHead) (x : Runs (h .frames) l un true (off (r .ignoring)) (r .settings .most) active run (machineOf r .table) u before after)
+      (b i : ℕ) (time : Milliseconds) (answer : Answer)
+      (eb : b ≡ begunBy (r .begun) (h .frames)) (ei : i ≡ mark (not (run .running))) (et : time ≡ cond un (record { 0 = 0 }) (h .time)) (ea : answer ≡ answerTo run time) where
+    module _ (m : Touch) (rest : List ℕ) (eh : h ≡ touchHeadOf m) (e : readSeries frameBy false (h .frames) l ≡ got (m .frames) rest) where
+      ran : Ran (rulesOf r) (framesFor r (m .frames)) true (off (r .ignoring)) run (machineOf r .table) u before after
+      ran = rw (frames-same r un eu (m .frames)) at (x .ran (m .frames) rest e a)
+
+      receiver-is : record { ready = r .ready; begun = b; ignoring = i; settings = r .settings; states = u .states; xs = u .xs; ys = u .ys } ≡ touched r m .receiver
+      unfolding touched
+      receiver-is =
+          let eb′ : b ≡ begunAfter r (m .frames) = eb ∙ ap (λ (g : TouchHead). begunBy (r .begun) (g .frames)) eh ∙ begun-is r (m .frames) in
+          let ei′ = ei ∙ ap (λ (k : Machine). mark (not (k .running))) (ran .machine) in
+          let s = ap (λ (k : Machine). k .table .states) (ran .machine) in
+          let p = ap (λ (k : Machine). k .table .xs) (ran .machine) in
+          let q = ap (λ (k : Machine). k .table .ys) (ran .machine) in
+          λ j. record { ready = r .ready; begun = eb′ j; ignoring = ei′ j; settings = r .settings; states = s j; xs = p j; ys = q j }
+
+      answer-is : answer ≡ answerOf (touched r m)
+      unfolding touched
+      answer-is =
+          let et′ : time ≡ timeFor r (m .time) = et ∙ ap (λ (g : TouchHead). cond un (record { 0 = 0 }) (g .time)) eh ∙ ap (λ (y : Bool). cond y (record { 0 = 0 }) (m .time)) eu in
+          let k = ran .counts in
+          let n = quotient (run .records) _ (ran .records) in
+          ea
+          ∙ (λ j. record {
+            refusal = none;
+            injected = ap (λ (y : Counts). y .injected) k j;
+            ignored = ap (λ (y : Counts). y .ignored) k j;
+            cancelled = ap (λ (y : Counts). y .cancelled) k j;
+            time = et′ j;
+            records = n j;
+          })
+
+      carried : length (touched r m .bytes) ≤ length before
+          → Carried (touched r m) before (record { receiver = record { ready = r .ready; begun = b; ignoring = i; settings = r .settings; states = u .states; xs = u .xs; ys = u .ys }; answer = answer }) after
+      carried room =
+          record {
+            answer = λ j. record { receiver = receiver-is j; answer = answer-is j };
+            output = rw (bytes-of r m) (ran .output .written refl (rw (bytes-of r m) at room));
+          }
+
+    pub carries : Carries r h l before (record { receiver = record { ready = r .ready; begun = b; ignoring = i; settings = r .settings; states = u .states; xs = u .xs; ys = u .ys }; answer = answer }) after
+    carries m rest eh e room = carried m rest eh e room
+
+-- ---- the whole body
+
+module _ (r : Receiver) (b : List ℕ) (j : Bool) (ej : j ≡ judged r) (before : List ℕ) (q : Received) where
+  pub touch-refused : (x : CheckedBody) (n k : ℕ) → Checks j b x → x ≡ CheckedBody.Refused n → k ≡ checkedRefusal x → q ≡ record { receiver = r; answer = refusal k }
+      → Gives r (touchEffect r b) before q before
+  touch-refused x n k c e f a = go (body strict j b) refl (sym (ap checkedGot e) ∙ c .same)
+    where
+      go : (y : Got Touch) → body strict j b ≡ y → bad n ≡ summary y → Gives r (touchEffect r b) before q before
+      go (got m t) w s = never n (touchHeadOf m) t s
+      go (bad z) w s =
+          let v : body strict (judged r) b ≡ bad z = rw ej at w in
+          let zn : z ≡ n = cc in
+          let kn : k ≡ z = f ∙ ap checkedRefusal e ∙ sym zn in
+          gives-refused r before q (touchEffect r b) z (rw v) (a ∙ ap (λ (y : ℕ). record { receiver = r; answer = refusal y }) kn)
+
+  module _ (h : TouchHead) (at : ℕ) (c : Checks j b (CheckedBody.Body h at)) (k : ℕ) (mid : List ℕ) (t : Tallies r (h .frames) (take (length b - at) (drop at b)) k before mid) where
+    it : Checked j b h at
+    it = checked j b h at c
+
+    effect-is : touchEffect r b ≡ got (touched r (it .message)) []
+    effect-is = let v : body strict (judged r) b ≡ got (it .message) [] = sym (ap (λ (y : Bool). body strict y b) ej) ∙ it .read in rw v
+
+    frames-are : readSeries frameBy false (h .frames) (take (length b - at) (drop at b)) ≡ got (it .message .frames) []
+    frames-are = rw (tail b at) (frames-freed j (h .frames) (drop at b) (it .message .frames) [] (it .frames))
+
+    long : 21 * k ≡ length (touched r (it .message) .bytes)
+    long = t .count (it .message .frames) [] frames-are ∙ sym (ap length (bytes-of r (it .message)))
+
+    same : mid ≡ before
+    same = t .kept (it .message .frames) [] frames-are
+
+    pub touch-none : length mid < 21 * k → q ≡ record { receiver = r; answer = refusal noRoom } → Gives r (touchEffect r b) before q mid
+    touch-none room a =
+        let n = ap length same in
+        let s = long in
+        rw same (gives-none r before q (touchEffect r b) (touched r (it .message)) [] effect-is (omega arith) a)
+
+    pub touch-done : (after : List ℕ) → 21 * k ≤ length mid → Carries r h (take (length b - at) (drop at b)) mid q after → Gives r (touchEffect r b) before q after
+    touch-done after room y =
+        let n = ap length same in
+        let s = long in
+        let d = y (it .message) [] (it .head) frames-are (omega arith) in
+        gives-done r before q (touchEffect r b) (touched r (it .message)) [] effect-is after (omega arith) (d .answer) (d .output ∙ ap (λ (y : List ℕ). laid y (touched r (it .message) .bytes)) same)

@@ -1,0 +1,103 @@
+-- `receiver::frames::receive_touch` meets its contract.
+-- Assumes nothing.
+use borrow.Author.Needs.{needs}
+use native.Mathlib.Omega.{arith}
+use Rattle.touch.specs.Answer.{Checks}
+use Rattle.touch.specs.declared.CheckedBody.the-variants as CheckedBody
+use Rattle.receiver.proofs.Touching.{touch-refused, touch-none, touch-done}
+use Rattle.receiver.proofs.frames.receive_touch.Statement.{statement}
+use Rattle.receiver.proofs.frames.receive_touch.Tie as tie
+
+is-judged-requires : tie.Need-is-judged-requires
+is-judged-requires c κs = search needs
+
+check-body-requires : tie.Need-check-body-requires
+check-body-requires c κs = search needs
+
+enum-known-checked : tie.Need-enum-known-checked
+enum-known-checked c = search needs
+
+enum-told : tie.Need-enum-told
+enum-told c = search needs
+
+refusal-requires : tie.Need-refusal-requires
+refusal-requires c κs = search needs
+
+refuse-requires : tie.Need-refuse-requires
+refuse-requires c κs = search needs
+
+returns : tie.Need-returns
+returns c =
+    let e = c .before .before in
+    let k = e .before .before in
+    touch-refused _ _ _ (k .before .is-judged .ensures) _ _ _ _ _ (k .check-body .ensures) (e .enum-told .given .1) (c .before .refusal .ensures) (c .refuse .ensures)
+
+-- the body that was checked
+body-is : (c : tie.After-known-told) →
+    let k = c .before .before .before in
+    Checks (k .before .is-judged .result) (k .before .before .before .before .args .body .now) (CheckedBody.Body (c .before .checked .given .0 .0) (c .before .checked .given .0 .1 .0))
+body-is c = rw (c .before .checked .given .1) at (c .before .before .before .check-body .ensures)
+
+sub-frames : tie.Need-sub-frames
+sub-frames c = omega (arith, body-is c .begins .inside)
+
+part-frames-start : tie.Need-part-frames-start
+part-frames-start c = omega (arith, body-is c .begins .inside)
+
+part-frames-end : tie.Need-part-frames-end
+part-frames-end c = search needs
+
+tally-requires : tie.Need-tally-requires
+tally-requires c κs = search needs
+
+mul-if1 : tie.Need-mul-if1
+mul-if1 c = search needs
+
+refuse-requires-2 : tie.Need-refuse-requires-2
+refuse-requires-2 c κs = search needs
+
+same-length : tie.Need-same-length
+same-length c = search needs
+
+returns-2 : tie.Need-returns-2
+returns-2 c =
+    let t = c .before .before .before .before in
+    let k = t .before .before .before in
+    touch-none _ _ _ (k .before .before .before .before .is-judged .ensures) _ _ _ _ (body-is k) _ _ (t .tally .ensures) (c .before .if1 .taken) (c .refuse2 .ensures)
+
+carry-out-requires : tie.Need-carry-out-requires
+carry-out-requires c κs = search needs
+
+same-length-2 : tie.Need-same-length-2
+same-length-2 c = search needs
+
+returns-3 : tie.Need-returns-3
+returns-3 c =
+    let o = c .before .before in
+    let e = o .before .before in
+    let t = e .before .before .before in
+    let k = t .before .before .before in
+    touch-done _ _ _ (k .before .before .before .before .is-judged .ensures) _ _ _ _ (body-is k) _ _ (t .tally .ensures) _ (e .if1 .left) (o .carry-out .ensures)
+
+pub receive-touch-spec : {M : Type 1} → statement M
+receive-touch-spec =
+    tie.close
+    (tie.spec
+    is-judged-requires
+    check-body-requires
+    enum-known-checked
+    enum-told
+    refusal-requires
+    refuse-requires
+    returns
+    sub-frames
+    part-frames-start
+    part-frames-end
+    tally-requires
+    mul-if1
+    refuse-requires-2
+    same-length
+    returns-2
+    carry-out-requires
+    same-length-2
+    returns-3)

@@ -1,0 +1,14 @@
+-- `receiver::fresh` meets its contract.
+-- Assumes nothing.
+use mathlib.Core.Path.{refl}
+use Rattle.contacts.specs.Table.{resting}
+use Rattle.receiver.specs.Receive.{fresh}
+use Rattle.receiver.proofs.fresh.Statement.{statement}
+use Rattle.receiver.proofs.fresh.Tie as tie
+
+returns : tie.Need-returns
+unfolding fresh resting
+returns c = refl
+
+pub fresh-spec : {M : Type 1} → statement M
+fresh-spec = tie.close (tie.spec returns)

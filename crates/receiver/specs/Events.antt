@@ -1,0 +1,77 @@
+-- What the calls for the single events answer: of the effect that a body has, and of the frames of a touch message.
+use Prim.Native.Nat.{ℕ, _*_, _/_, _%_, _≤_}
+use mathlib.Core.Path.{_≡_}
+use mathlib.Core.Bool.{Bool, false, cond}
+use mathlib.Core.List.{List}
+use lib.Dec.{eqb}
+use lib.ListN.{length}
+use Rattle.paper.specs.Refusals.{none, trailing}
+use Rattle.paper.specs.declared.Milliseconds.{Milliseconds}
+use Rattle.slices.specs.Writing.{laid, given, left}
+use Rattle.formats.specs.Format.{Got, got, andThen, whole, byte, readSeries}
+use Rattle.fields.specs.Integers.{strict}
+use Rattle.house.specs.Fields.{recordBytes}
+use Rattle.messages.specs.Bodies.{ready}
+use Rattle.touch.specs.Touch.{Frame, Touch, touchHeadOf, frame, body}
+use Rattle.touch.specs.declared.TouchHead.{TouchHead}
+use Rattle.contacts.specs.Machine.{runBytes}
+use Rattle.runs.specs.Runs.{mostRecords}
+use Rattle.runs.specs.declared.Run.{Run}
+use Rattle.receiver.specs.declared.Receiver.{Receiver}
+use Rattle.receiver.specs.declared.Answer.{Answer}
+use Rattle.receiver.specs.declared.Received.{Received}
+use Rattle.receiver.specs.Receive.{Effect, rulesOf, machineOf, off, judged, framesFor, settled, touched, dismissedBy, draftOf, answerOf, receiverAfter, answerAfter}
+
+-- ---- settings and marks
+
+-- ready flag 2
+abbrev pub untimedBy : ℕ → Bool
+untimedBy flags = eqb (flags / 2 % 2) 1
+
+abbrev pub judgedBy : ℕ → ℕ → Bool
+judgedBy flags begun = cond (untimedBy flags) false (off begun)
+
+-- the first-frame mark after a message of so many frames
+abbrev pub begunBy : ℕ → ℕ → ℕ
+begunBy begun frames = cond (eqb frames 0) begun 1
+
+-- the answer of a run
+abbrev pub answerTo : Run → Milliseconds → Answer
+answerTo run time = record { refusal = none; injected = run .injected; ignored = run .ignored; cancelled = run .cancelled; time = time; records = run .records }
+
+-- ---- the answer for an effect, or for the refusal in its place
+
+pub record Gives (r : Receiver) (x : Got Effect) (before : List ℕ) (q : Received) (after : List ℕ) : Type 0 where
+  pub kept : q .receiver ≡ receiverAfter r x (length before)
+  pub answered : q .answer ≡ answerAfter x (length before)
+  pub output : after ≡ left before (given (length before) (draftOf x))
+
+-- the three bodies
+abbrev pub readyEffect : Receiver → List ℕ → Got Effect
+readyEffect r b = andThen (whole ready trailing b) (λ s t. got (settled r s) t)
+
+abbrev pub touchEffect : Receiver → List ℕ → Got Effect
+touchEffect r b = andThen (body strict (judged r) b) (λ m t. got (touched r m) t)
+
+abbrev pub dismissEffect : Receiver → List ℕ → Got Effect
+dismissEffect r b = andThen (whole byte trailing b) (λ id t. got (dismissedBy r id) t)
+
+-- ---- the frames of a touch message that is read
+
+-- the n frames at the front of l, run dry: how many records they give
+pub record Tallies (r : Receiver) (n : ℕ) (l : List ℕ) (records : ℕ) (before after : List ℕ) : Type 0 where
+  pub small : records ≤ mostRecords
+  pub count : (fs : List Frame) (rest : List ℕ) → readSeries (λ b. frame strict b .read) false n l ≡ got fs rest
+      → recordBytes * records ≡ length (runBytes (rulesOf r) (machineOf r) (framesFor r fs))
+  pub kept : (fs : List Frame) (rest : List ℕ) → readSeries (λ b. frame strict b .read) false n l ≡ got fs rest → after ≡ before
+
+-- an effect, carried out
+pub record Carried (e : Effect) (before : List ℕ) (q : Received) (after : List ℕ) : Type 0 where
+  pub answer : q ≡ record { receiver = e .receiver; answer = answerOf e }
+  pub output : after ≡ laid before (e .bytes)
+
+-- the frames of a head at the front of l, carried out where there is room
+abbrev pub Carries : Receiver → TouchHead → List ℕ → List ℕ → Received → List ℕ → Type 0
+Carries r h l before q after =
+    (m : Touch) (rest : List ℕ) → h ≡ touchHeadOf m → readSeries (λ b. frame strict b .read) false (h .frames) l ≡ got (m .frames) rest
+    → length (touched r m .bytes) ≤ length before → Carried (touched r m) before q after

@@ -1,0 +1,205 @@
+-- Histories of one receiver, and the path of a contact through the records that they write.
+use Prim.Native.Nat.{ℕ, zero, suc, _+_, _/_, _≤_}
+use mathlib.Core.Path.{_≡_}
+use mathlib.Core.Bool.{Bool, true, false, cond, not}
+use mathlib.Core.List.{List, [], _∷_, _++_, map}
+use lib.Dec.{eqb}
+use lib.ListN.{length, drop}
+use Rattle.paper.specs.Refusals.{none, noRoom}
+use Rattle.paper.specs.declared.Milliseconds.{Milliseconds}
+use Rattle.digits.specs.Digits.{Bytes}
+use Rattle.slices.specs.Writing.{Draft, bytes, refuse, given}
+use Rattle.formats.specs.Format.{Got, got, bad, andThen}
+use Rattle.fields.specs.Integers.{strict}
+use Rattle.states.specs.Table.{out, illegal, next as nextState}
+use Rattle.house.specs.Fields.{recordBytes}
+use Rattle.house.specs.Layout.{touched as touchKind, recordOf}
+use Rattle.house.specs.declared.Point.{Point}
+use Rattle.house.specs.declared.Contact.{Contact}
+use Rattle.house.specs.declared.Record.{Record}
+use Rattle.house.specs.declared.Record.the-variants as Record
+use Rattle.messages.specs.Header.{headed, touch, writeMessage}
+use Rattle.messages.specs.declared.Ready.{Ready}
+use Rattle.touch.specs.Touch.{Frame, Touch, body}
+use Rattle.touch.specs.Touch as format
+use Rattle.contacts.specs.Table.{Table, resting, stateAt}
+use Rattle.contacts.specs.Conforms.{every, lifts, samePlace, placeIn}
+use Rattle.contacts.specs.Machine.{Machine, opening, cancelled, verdict, runMachine, runBytes}
+use Rattle.receiver.specs.declared.Receiver.{Receiver}
+use Rattle.receiver.specs.declared.Answer.{Answer}
+use Rattle.receiver.specs.Receive.{off, rulesOf, machineOf, withTable, framesFor, judged, takes, effect, draftOf, refusal, receiverAfter, answerAfter}
+
+-- ---- "any history of messages to one receiver, refused ones among them"
+
+-- a message, and the length of the output that it was lent
+pub record Sent : Type 0 where
+  pub message : List ℕ
+  pub room : ℕ
+
+-- messages are lists of bytes
+abbrev pub OfBytes : List Sent → Type 0
+OfBytes [] = Unit
+OfBytes (x ∷ h) = Bytes (x .message) × OfBytes h
+
+abbrev pub messagesOf : List Sent → List (List ℕ)
+messagesOf h = map (λ (x : Sent). x .message) h
+
+-- what one message leaves, answers and writes
+unfoldable pub next : Receiver → Sent → Receiver
+next r x = receiverAfter r (effect r (x .message)) (x .room)
+
+unfoldable pub answerTo : Receiver → Sent → Answer
+answerTo r x = answerAfter (effect r (x .message)) (x .room)
+
+abbrev pub writtenBy : Draft → List ℕ
+writtenBy (bytes s) = s
+writtenBy (refuse e) = []
+
+unfoldable pub wrote : Receiver → Sent → List ℕ
+wrote r x = writtenBy (given (x .room) (draftOf (effect r (x .message))))
+
+-- "A refusal answers its number with all other fields 0; the receiver, mode and first-frame mark included, and the output stay as they were":
+-- what a step keeps, answers and leaves in the output where it refuses; its number is one of the table's first 13
+pub record Unchanged (r : Receiver) (before : List ℕ) (kept : Receiver) (answer : Answer) (after : List ℕ) : Type 0 where
+  pub receiver : kept ≡ r
+  pub output : after ≡ before
+  pub others : answer ≡ refusal (answer .refusal)
+  pub low : 1 ≤ answer .refusal
+  pub high : answer .refusal ≤ 13
+
+-- what a history leaves and writes
+unfoldable pub after : Receiver → List Sent → Receiver
+after r [] = r
+after r (x ∷ h) = after (next r x) h
+
+unfoldable pub written : Receiver → List Sent → List ℕ
+written r [] = []
+written r (x ∷ h) = wrote r x ++ written (next r x) h
+
+-- what each of its messages left, answered and wrote
+pub record Outcome : Type 0 where
+  pub receiver : Receiver
+  pub answer : Answer
+  pub bytes : List ℕ
+
+unfoldable pub outcomes : Receiver → List Sent → List Outcome
+outcomes r [] = []
+outcomes r (x ∷ h) = record { receiver = next r x; answer = answerTo r x; bytes = wrote r x } ∷ outcomes (next r x) h
+
+-- "as long as neither is refused for lack of room"
+unfoldable pub Roomy : Receiver → List Sent → Type 0
+Roomy r [] = Unit
+Roomy r (x ∷ h) = (answerTo r x .refusal ≡ noRoom → ⊥) × Roomy (next r x) h
+
+-- ---- "A frame is accepted when its message is"
+
+abbrev pub tableOf : Receiver → Table
+tableOf r = machineOf r .table
+
+-- a touch message, as the receiver reads it; no other message is one
+unfoldable pub touchIn : Receiver → List ℕ → Got Touch
+touchIn r l = andThen (headed (takes r) l) (λ e b. cond (eqb e touch) (body strict (judged r) b) (bad none))
+
+abbrev pub framesOf : Got Touch → List Frame
+framesOf (got m t) = m .frames
+framesOf (bad n) = []
+
+unfoldable pub framesTaken : Receiver → Sent → List Frame
+framesTaken r x = cond (eqb (answerTo r x .refusal) none) (framesOf (touchIn r (x .message))) []
+
+-- "The meaning of "opening" is the same in both modes."
+abbrev pub opens : Frame → Bool
+opens f = opening (f .contacts)
+
+unfoldable pub unopened : List Frame → Bool
+unopened fs = every (λ f. not (opens f)) fs
+
+-- no opening frame is accepted
+unfoldable pub Unopened : Receiver → List Sent → Type 0
+Unopened r [] = Unit
+Unopened r (x ∷ h) = (unopened (framesTaken r x) ≡ true) × Unopened (next r x) h
+
+-- "A rested receiver has accepted event 2, is past its first frame, is running, and has no active contact."
+unfoldable pub rested : Ready → Receiver
+rested s = withTable (record { ready = 1; begun = 1; ignoring = 0; settings = s; states = []; xs = []; ys = [] }) resting
+
+-- the contacts and the mode after the first frames of a message, and what those write
+abbrev pub machineAt : Receiver → List Frame → Machine
+machineAt r fs = runMachine (rulesOf r) (machineOf r) (framesFor r fs)
+
+abbrev pub bytesAt : Receiver → List Frame → List ℕ
+bytesAt r fs = runBytes (rulesOf r) (machineOf r) (framesFor r fs)
+
+-- the bytes of a touch message
+abbrev pub messageOf : Touch → List ℕ
+messageOf m = writeMessage touch (format.touch strict false) m
+
+-- "Where demand 3's opening frame is inside a message, the rested receiver gets a message of the same encodeTime that begins with that
+-- frame": x has the frame f after fs and before gs, and y begins with it
+pub record Cut (r : Receiver) (x y : Sent) (fs : List Frame) (f : Frame) (gs : List Frame) : Type 0 where
+  pub time : Milliseconds
+  pub whole : touchIn r (x .message) ≡ got (record { time = time; frames = fs ++ (f ∷ gs) }) []
+  pub part : touchIn (rested (r .settings)) (y .message) ≡ got (record { time = time; frames = f ∷ gs }) []
+
+-- "records are compared from that frame on": the receiver r given x and `more` is, but for the frames before f, the rested one given y and
+-- `others`
+pub record AsRested (r : Receiver) (x y : Sent) (fs : List Frame) (more others : List Sent) : Type 0 where
+  pub receiver : next r x ≡ next (rested (r .settings)) y
+  pub bytes : wrote r x ≡ bytesAt r fs ++ wrote (rested (r .settings)) y
+  pub time : answerTo r x .time ≡ answerTo (rested (r .settings)) y .time
+  pub outcomes : outcomes (next r x) more ≡ outcomes (next (rested (r .settings)) y) others
+  pub written : written r (x ∷ more) ≡ bytesAt r fs ++ written (rested (r .settings)) (y ∷ others)
+
+-- the frame f is cancelled, after the frames fs of its message
+abbrev pub CancelledAfter : Receiver → List Frame → Frame → Type 0
+CancelledAfter r fs f = verdict (rulesOf r) (machineAt r fs) (f .contacts) ≡ cancelled
+
+-- no contact is active
+abbrev pub NoneActive : Table → Type 0
+NoneActive t = (id : ℕ) → stateAt t id ≡ out
+
+-- what a cancelled frame leaves: ignoring, every contact out of range
+pub record Silent (r : Receiver) : Type 0 where
+  pub ignoring : off (r .ignoring) ≡ false
+  pub resting : tableOf r ≡ resting
+
+-- ---- "each contact's records are a legal path through the three states from out of range"
+
+-- n records, each of 21 bytes
+unfoldable pub recordsFrom : ℕ → List ℕ → List Record
+recordsFrom zero l = []
+recordsFrom (suc n) l = recordOf l ∷ recordsFrom n (drop recordBytes l)
+
+-- as many as bytes hold; a last one that is not whole is read as refused
+unfoldable pub recordsIn : List ℕ → List Record
+recordsIn l = recordsFrom ((length l + 20) / recordBytes) l
+
+-- where a path has come: a state and a position; or it was none
+pub data Path : Type 0 where
+  at : ℕ → Point → Path
+  broken : Path
+
+abbrev pub andOn : Path → (ℕ → Point → Path) → Path
+andOn (at s p) f = f s p
+andOn broken f = broken
+
+-- "With 0x0C, 0x04 and 0x24 the position must be the stored one"; "Kinds 2 and 3 carry the stored position"
+abbrev pub held : ℕ → ℕ → Bool
+held kind flags = cond (eqb kind touchKind) (lifts flags) true
+
+abbrev pub mayStep : ℕ → Contact → ℕ → Point → Bool
+mayStep kind c s p = cond (eqb (nextState (c .flags) s) illegal) false (cond (held kind (c .flags)) (samePlace (c .place) p) true)
+
+-- "An injected contact's position is stored with its state. A contact out of range has position 0, 0."
+abbrev pub stepped : Contact → ℕ → Path
+stepped c s = at (nextState (c .flags) s) (placeIn (nextState (c .flags) s) (c .place))
+
+-- one record: of another contact and of none it moves nothing
+unfoldable pub pathStep : ℕ → Record → ℕ → Point → Path
+pathStep id (Record.Head h) s p = at s p
+pathStep id (Record.Contact kind c) s p = cond (eqb (c .id) id) (cond (mayStep kind c s p) (stepped c s) broken) (at s p)
+pathStep id (Record.Refused e) s p = broken
+
+unfoldable pub path : ℕ → List Record → ℕ → Point → Path
+path id [] s p = at s p
+path id (x ∷ xs) s p = andOn (pathStep id x s p) (path id xs)

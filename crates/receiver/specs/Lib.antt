@@ -1,0 +1,4 @@
+-- The receiver, the contracts of its inner functions, and histories of it.
+pub mod Receive
+pub mod Events
+pub mod History

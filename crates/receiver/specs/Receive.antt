@@ -1,0 +1,159 @@
+-- The receiver of document 01: what becomes of it, what it answers and what it writes, of any message lent any room.
+use Prim.Native.Nat.{ℕ, _+_, _/_, _%_}
+use mathlib.Core.Path.{_≡_}
+use mathlib.Core.Bool.{Bool, true, false, cond, not}
+use mathlib.Core.List.{List, [], _∷_, map}
+use lib.Dec.{eqb, leb}
+use lib.IntN.{pos}
+use lib.ListN.{length}
+use Rattle.paper.specs.Refusals.{none, noRoom, trailing}
+use Rattle.paper.specs.declared.Milliseconds.{Milliseconds}
+use Rattle.slices.specs.Writing.{Draft, bytes, refuse, given, left}
+use Rattle.formats.specs.Format.{Got, got, bad, andThen, whole, byte}
+use Rattle.fields.specs.Integers.{strict}
+use Rattle.states.specs.Table.{next}
+use Rattle.house.specs.Fields.{recordBytes}
+use Rattle.messages.specs.Header.{headed, clientReady, touch, dismiss}
+use Rattle.messages.specs.Bodies.{ready}
+use Rattle.messages.specs.declared.Ready.{Ready}
+use Rattle.touch.specs.Touch.{Frame, Touch, body}
+use Rattle.contacts.specs.Table.{Table, resting}
+use Rattle.contacts.specs.Conforms.{Rules}
+use Rattle.contacts.specs.Machine.{Machine, runMachine, runBytes, runCounts, dismissTable, dismissBytes, Counts}
+use Rattle.contacts.specs.Machine as machine
+use Rattle.receiver.specs.declared.Receiver.{Receiver}
+use Rattle.receiver.specs.declared.Answer.{Answer}
+
+-- ---- a receiver's parts: each mark is off where its number is 0
+
+abbrev pub off : ℕ → Bool
+off n = eqb n 0
+
+abbrev pub mark : Bool → ℕ
+mark true = 1
+mark false = 0
+
+abbrev pub rulesOf : Receiver → Rules
+rulesOf r = record { next = next; most = r .settings .most }
+
+abbrev pub machineOf : Receiver → Machine
+machineOf r = record { table = record { states = r .states; xs = r .xs; ys = r .ys }; running = off (r .ignoring) }
+
+abbrev pub withTable : Receiver → Table → Receiver
+withTable r t = record { ready = r .ready; begun = r .begun; ignoring = r .ignoring; settings = r .settings; states = t .states; xs = t .xs; ys = t .ys }
+
+abbrev pub noSettings : Ready
+noSettings = record { flags = 0; version = 0; most = 0 }
+
+-- "A fresh receiver is unready, running, before its first frame, with settings 0 and all contacts out of range."
+unfoldable pub fresh : Receiver
+fresh = withTable (record { ready = 0; begun = 0; ignoring = 0; settings = noSettings; states = []; xs = []; ys = [] }) resting
+
+-- ---- what a message does, before its room is asked
+
+pub record Effect : Type 0 where
+  pub receiver : Receiver
+  pub counts : Counts
+  pub time : Milliseconds
+  pub bytes : List ℕ
+
+-- "For events 2 and 6 [the counts] and encodeTime are 0."
+abbrev pub quiet : Receiver → List ℕ → Effect
+quiet r s = record { receiver = r; counts = machine.none; time = record { 0 = 0 }; bytes = s }
+
+-- client ready: the settings, which a receiver takes once
+abbrev pub settled : Receiver → Ready → Effect
+settled r s = quiet (record { ready = 1; begun = r .begun; ignoring = r .ignoring; settings = s; states = r .states; xs = r .xs; ys = r .ys }) []
+
+-- "With ready flag 2 set, 11 is not applied, and the receiver answers encodeTime 0 and writes offset 0 (000, 2.2.3.2)."
+abbrev pub untimed : Receiver → Bool
+untimed r = eqb (r .settings .flags / 2 % 2) 1
+
+-- "11 is judged on a message's first frame as long as no touch message with a frame has been accepted since ready."
+abbrev pub judged : Receiver → Bool
+judged r = cond (untimed r) false (off (r .begun))
+
+abbrev pub withoutOffset : Frame → Frame
+withoutOffset f = record { offset = record { 0 = 0 }; contacts = f .contacts }
+
+unfoldable pub framesFor : Receiver → List Frame → List Frame
+framesFor r fs = cond (untimed r) (map withoutOffset fs) fs
+
+abbrev pub timeFor : Receiver → Milliseconds → Milliseconds
+timeFor r t = cond (untimed r) (record { 0 = 0 }) t
+
+-- a touch message with a frame sets the first-frame mark
+abbrev pub begunAfter : Receiver → List Frame → ℕ
+begunAfter r [] = r .begun
+begunAfter r (f ∷ fs) = 1
+
+unfoldable pub touched : Receiver → Touch → Effect
+touched r m =
+    let fs : List Frame = framesFor r (m .frames) in
+    let a : Machine = runMachine (rulesOf r) (machineOf r) fs in
+    record {
+      receiver = record {
+        ready = r .ready;
+        begun = begunAfter r (m .frames);
+        ignoring = mark (not (a .running));
+        settings = r .settings;
+        states = a .table .states;
+        xs = a .table .xs;
+        ys = a .table .ys;
+      };
+      counts = runCounts (rulesOf r) (machineOf r) fs;
+      time = timeFor r (m .time);
+      bytes = runBytes (rulesOf r) (machineOf r) fs;
+    }
+
+abbrev pub dismissedBy : Receiver → ℕ → Effect
+dismissedBy r id = quiet (withTable r (dismissTable (machineOf r .table) id)) (dismissBytes (machineOf r .table) id)
+
+-- "The receiver takes event 2 until it accepts one, then only 3 and 6."
+abbrev pub takes : Receiver → ℕ → Bool
+takes r e = cond (off (r .ready)) (eqb e clientReady) (cond (eqb e touch) true (eqb e dismiss))
+
+abbrev pub bodyEffect : Receiver → ℕ → List ℕ → Got Effect
+bodyEffect r e b =
+    cond (eqb e clientReady) (andThen (whole ready trailing b) (λ s t. got (settled r s) t))
+    (cond (eqb e touch) (andThen (body strict (judged r) b) (λ m t. got (touched r m) t))
+    (andThen (whole byte trailing b) (λ id t. got (dismissedBy r id) t)))
+
+unfoldable pub effect : Receiver → List ℕ → Got Effect
+effect r l = andThen (headed (takes r) l) (bodyEffect r)
+
+-- ---- what is answered and left
+
+abbrev pub draftOf : Got Effect → Draft
+draftOf (got e t) = bytes (e .bytes)
+draftOf (bad n) = refuse n
+
+-- "A refusal answers its number with all other fields 0"
+abbrev pub refusal : ℕ → Answer
+refusal n = record { refusal = n; injected = 0; ignored = 0; cancelled = 0; time = record { 0 = 0 }; records = 0 }
+
+abbrev pub answerOf : Effect → Answer
+answerOf e =
+    record {
+      refusal = none;
+      injected = e .counts .injected;
+      ignored = e .counts .ignored;
+      cancelled = e .counts .cancelled;
+      time = e .time;
+      records = length (e .bytes) / recordBytes;
+    }
+
+-- the receiver and the answer: 13 where the output is shorter than what the call writes
+unfoldable pub receiverAfter : Receiver → Got Effect → ℕ → Receiver
+receiverAfter r (got e t) room = cond (leb (length (e .bytes)) room) (e .receiver) r
+receiverAfter r (bad n) room = r
+
+unfoldable pub answerAfter : Got Effect → ℕ → Answer
+answerAfter (got e t) room = cond (leb (length (e .bytes)) room) (answerOf e) (refusal noRoom)
+answerAfter (bad n) room = refusal n
+
+-- THE CONTRACT of the step
+pub record Receives (r : Receiver) (message before : List ℕ) (receiver : Receiver) (answer : Answer) (after : List ℕ) : Type 0 where
+  pub kept : receiver ≡ receiverAfter r (effect r message) (length before)
+  pub answered : answer ≡ answerAfter (effect r message) (length before)
+  pub output : after ≡ left before (given (length before) (draftOf (effect r message)))

@@ -1,0 +1,160 @@
+// Touch messages: judged whole, run dry for the room that they take, and then run.
+use crate::Answer;
+use crate::Received;
+use crate::Receiver;
+use crate::events::refuse;
+use paper::Milliseconds;
+use runs::Run;
+use touch::CheckedBody;
+use touch::TouchHead;
+ghost use mathlib.Core.Path.{_≡_};
+ghost use mathlib.Core.Bool.{cond, not};
+ghost use Rattle.contacts.specs.Ruling.{Counted};
+ghost use Rattle.receiver.specs.Receive.{mark};
+ghost use Rattle.receiver.specs.Events.{untimedBy, judgedBy, begunBy, answerTo, Gives, touchEffect, Tallies, Carries};
+
+// Whether the client asked for no time stamps: ready flag 2.
+fn is_untimed(flags: u32) -> bool
+    ensures { λ r. ⌜ r ≡ untimedBy flags ⌝ }
+{
+    flags / 2 % 2 == 1
+}
+
+// Whether the first frame's offset is judged.
+fn is_judged(flags: u32, begun: u8) -> bool
+    ensures { λ r. ⌜ r ≡ judgedBy flags begun ⌝ }
+{
+    if is_untimed(flags) {
+        return false;
+    }
+    begun == 0
+}
+
+// encodeTime as it is answered: 0 where the client asked for no time stamps.
+fn time_for(time: Milliseconds, untimed: bool) -> Milliseconds
+    ensures { λ r. ⌜ r ≡ cond untimed (record { 0 = 0 }) time ⌝ }
+{
+    if untimed {
+        return Milliseconds(0);
+    }
+    time
+}
+
+// The first-frame mark after a message of so many frames.
+fn begun_after(begun: u8, frames: u8) -> u8
+    ensures { λ r. ⌜ r ≡ begunBy begun frames ⌝ }
+{
+    if frames == 0 {
+        return begun;
+    }
+    1
+}
+
+// The mark of a mode.
+fn ignoring_in(running: bool) -> u8
+    ensures { λ r. ⌜ r ≡ mark (not running) ⌝ }
+{
+    if running {
+        return 0;
+    }
+    1
+}
+
+// How many of the 256 contacts are active.
+fn active_in(states: [u8; 256]) -> u16
+    ensures { λ r. ⌜ Counted r states ⌝ }
+{
+    contacts::count_active(&states)
+}
+
+// The answer of a run.
+fn answer_to(run: Run, time: Milliseconds) -> Answer
+    ensures { λ r. ⌜ r ≡ answerTo run time ⌝ }
+{
+    Answer {
+        refusal: 0,
+        injected: run.injected,
+        ignored: run.ignored,
+        cancelled: run.cancelled,
+        time: time,
+        records: run.records,
+    }
+}
+
+// How many records the frames give; nothing is written.
+fn tally(receiver: Receiver, n: u8, frames: &[u8], output: &mut [u8]) -> usize
+    ensures { λ r. ⌜ Tallies receiver n (now (frames .entry)) r (now (output .entry)) (now (output .exit)) ⌝ }
+{
+    let untimed = is_untimed(receiver.settings.flags);
+    let mut states = receiver.states;
+    let active = active_in(states);
+    let mut xs = receiver.xs;
+    let mut ys = receiver.ys;
+    let run = runs::run_frames(
+        output,
+        false,
+        frames,
+        n,
+        untimed,
+        receiver.settings.most,
+        receiver.ignoring == 0,
+        active,
+        &mut states,
+        &mut xs,
+        &mut ys,
+    );
+    run.records
+}
+
+// The frames of a message carried out: their records, the receiver after them, and the answer.
+fn carry_out(receiver: Receiver, head: TouchHead, frames: &[u8], output: &mut [u8]) -> Received
+    ensures { λ r. ⌜ Carries receiver head (now (frames .entry)) (now (output .entry)) r (now (output .exit)) ⌝ }
+{
+    let untimed = is_untimed(receiver.settings.flags);
+    let mut states = receiver.states;
+    let active = active_in(states);
+    let mut xs = receiver.xs;
+    let mut ys = receiver.ys;
+    let run = runs::run_frames(
+        output,
+        true,
+        frames,
+        head.frames,
+        untimed,
+        receiver.settings.most,
+        receiver.ignoring == 0,
+        active,
+        &mut states,
+        &mut xs,
+        &mut ys,
+    );
+    let mut next = receiver;
+    next.begun = begun_after(receiver.begun, head.frames);
+    next.ignoring = ignoring_in(run.running);
+    next.states = states;
+    next.xs = xs;
+    next.ys = ys;
+    let time = head.time;
+    let answer = answer_to(run, time_for(time, untimed));
+    Received {
+        receiver: next,
+        answer: answer,
+    }
+}
+
+// A touch message's body.
+pub(crate) fn receive_touch(receiver: Receiver, body: &[u8], output: &mut [u8]) -> Received
+    ensures { λ r. ⌜ Gives receiver (touchEffect receiver (now (body .entry))) (now (output .entry)) r (now (output .exit)) ⌝ }
+{
+    let judged = is_judged(receiver.settings.flags, receiver.begun);
+    let checked = touch::check_body(body, judged);
+    let CheckedBody::Body(head, at) = checked else {
+        return refuse(receiver, checked.refusal());
+    };
+    let frames = &body[at..];
+    let records = tally(receiver, head.frames, frames, output);
+    if output.len() < house::RECORD_BYTES * records {
+        return refuse(receiver, paper::NO_ROOM);
+    }
+    carry_out(receiver, head, frames, output)
+}

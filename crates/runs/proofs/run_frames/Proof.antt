@@ -1,0 +1,174 @@
+-- `runs::run_frames` meets its contract. The loop keeps: the run is under way, of whatever frames can be read.
+-- Assumes nothing.
+use borrow.Author.Needs.{needs}
+use Prim.Native.Nat.{ℕ, _+_, _-_, _*_, _^_, _≤_, _<_}
+use mathlib.Core.Path.{_≡_, refl, _∙_}
+use mathlib.Core.Bool.{false}
+use mathlib.Core.List.{List}
+use native.Mathlib.Omega.{arith}
+use lib.ListN.{length}
+use Rattle.formats.specs.Format.{got, readSeries}
+use Rattle.touch.specs.Touch.{Frame}
+use Rattle.touch.proofs.Passes.{frameBy}
+use Rattle.frame_records.proofs.Finding.{Inside, inside}
+use Rattle.contacts.specs.Ruling.{tableOf, rulesOf, Counted}
+use Rattle.runs.specs.Runs.{framesOf, mostRecords}
+use Rattle.runs.proofs.Running.{Underway, underway-first, underway-next, underway-last}
+use Rattle.runs.proofs.run_frames.Statement.{statement}
+use Rattle.runs.proofs.run_frames.Tie as tie
+
+abbrev Inv-loop : tie.InvT-loop
+Inv-loop out₀ wet frames n untimed most running active states₀ xs₀ ys₀ run₀ pos₀ at₀ left₀ out states xs ys run pos at left =
+    (at ≤ length frames)
+    × (pos ≤ length out)
+    × (length out ≡ length out₀)
+    × (framesOf run + left ≤ 255)
+    × (run .records + 65536 * left ≤ mostRecords)
+    × ((fs : List Frame) (end : List ℕ) → readSeries frameBy false n frames ≡ got fs end → Counted active states₀
+    → Underway (rulesOf most) untimed wet frames (record { table = tableOf states₀ xs₀ ys₀; running = running }) fs end out₀ run (tableOf states xs ys) out pos at left)
+
+abbrev μ-loop : tie.MeasureT-loop
+μ-loop out₀ wet frames n untimed most running active states₀ xs₀ ys₀ run₀ pos₀ at₀ left₀ out states xs ys run pos at left = left
+
+start-requires : tie.Need-start-requires Inv-loop μ-loop
+start-requires c κs = search needs
+
+loop-holds : tie.Need-loop-holds Inv-loop μ-loop
+loop-holds c =
+    let a = c .before .before .before .args in (
+      omega arith,
+      omega arith,
+      refl,
+      rw (c .start .ensures) (omega arith),
+      rw (c .start .ensures) (omega arith),
+      λ fs end e k. underway-first (a .most) (a .untimed) (a .wet) _ fs end _ _ _ (a .n) (a .active) (a .running) e k (c .start .ensures),
+    )
+
+sub-find-frame : tie.Need-sub-find-frame Inv-loop μ-loop
+sub-find-frame c = search needs
+
+part-find-frame-start : tie.Need-part-find-frame-start Inv-loop μ-loop
+part-find-frame-start c = search needs
+
+part-find-frame-end : tie.Need-part-find-frame-end Inv-loop μ-loop
+part-find-frame-end c = search needs
+
+find-frame-requires : tie.Need-find-frame-requires Inv-loop μ-loop
+find-frame-requires c κs = search needs
+
+add-contacts : tie.Need-add-contacts Inv-loop μ-loop
+add-contacts c = search needs
+
+timed-requires : tie.Need-timed-requires Inv-loop μ-loop
+timed-requires c κs = search needs
+
+sub-step : tie.Need-sub-step Inv-loop μ-loop
+sub-step c = search needs
+
+part-step-start : tie.Need-part-step-start Inv-loop μ-loop
+part-step-start c = search needs
+
+part-step-end : tie.Need-part-step-end Inv-loop μ-loop
+part-step-end c = search needs
+
+sub-step-2 : tie.Need-sub-step-2 Inv-loop μ-loop
+sub-step-2 c = search needs
+
+part-step-start-2 : tie.Need-part-step-start-2 Inv-loop μ-loop
+part-step-start-2 c = search needs
+
+part-step-end-2 : tie.Need-part-step-end-2 Inv-loop μ-loop
+part-step-end-2 c = search needs
+
+step-requires : tie.Need-step-requires Inv-loop μ-loop
+step-requires c κs = search needs
+
+sub-pass : tie.Need-sub-pass Inv-loop μ-loop
+sub-pass c = search needs
+
+pass-requires : tie.Need-pass-requires Inv-loop μ-loop
+pass-requires c κs =
+    let g = c .before .before .out .given .1 in
+    let s = c .before .before .before .step .ensures .small in
+    let p = c .before .before .before .before .before .before .before .before .before .before .before .before .before .before in
+    (omega (arith, g, p .loop .inv .1), omega (arith, s))
+
+-- the frame of this turn ends inside the message
+found-frame : (c : tie.After-step Inv-loop μ-loop) →
+    let f = c .before .before .before .before .before .before .before .before in
+    let p = f .before .before .before in
+    Inside (p .before .before .before .before .args .frames .now) (p .loop .at) (f .find-frame .result) (f .find-frame .ensures)
+found-frame c =
+    let f = c .before .before .before .before .before .before .before .before in
+    let p = f .before .before .before in
+    inside (p .before .before .before .before .args .frames .now) (p .loop .at) (f .find-frame .result) (f .find-frame .ensures) (p .loop .inv .0)
+
+short : (c : tie.After-start Inv-loop μ-loop) → length (c .before .before .before .args .frames .now) < 2 ^ 64
+short c = omega arith
+
+add-at : tie.Need-add-at Inv-loop μ-loop
+add-at c =
+    let s = c .before .before .before .before .before in
+    omega (arith, found-frame s .ends, short (s .before .before .before .before .before .before .before .before .before .before .before .before))
+
+sub-left : tie.Need-sub-left Inv-loop μ-loop
+sub-left c = search needs
+
+loop-less : tie.Need-loop-less Inv-loop μ-loop
+loop-less c = search needs
+
+loop-again : tie.Need-loop-again Inv-loop μ-loop
+loop-again c =
+    let s = c .before .before .before .before .before in
+    let d = s .before .before .before .before .before .before in
+    let f = d .before .before in
+    let i = f .before .before in
+    let p = i .before in
+    let a = p .before .before .before .before .args in
+    let b = s .step .ensures in
+    let g = c .before .before .before .before .out .given .1 in (
+      found-frame s .ends,
+      c .before .pass .ensures .inside,
+      g ∙ p .loop .inv .2,
+      omega (arith, b .frames),
+      omega (arith, b .small),
+      λ fs end e k.
+          underway-next (a .most) (a .untimed) (a .wet) _ fs end _ _ _ _ _ _ _ _ _ _ (p .loop .inv .5 fs end e k) (i .loop-test .taken) _ (f .find-frame .ensures) _ (d .timed .ensures) _ b _ (p .loop .inv .2) (c .before .pass .ensures) g,
+    )
+
+same-length : tie.Need-same-length Inv-loop μ-loop
+same-length c = search needs
+
+returns : tie.Need-returns Inv-loop μ-loop
+returns c =
+    record { small = omega arith; ran = λ fs rest e k. underway-last _ _ _ _ fs rest _ _ _ _ _ _ _ _ (c .before .loop .inv .5 fs rest e k) (c .loop-test .left) }
+
+pub run-frames-spec : {M : Type 1} → statement M
+run-frames-spec =
+    tie.close
+    (tie.spec
+    Inv-loop
+    μ-loop
+    start-requires
+    loop-holds
+    sub-find-frame
+    part-find-frame-start
+    part-find-frame-end
+    find-frame-requires
+    add-contacts
+    timed-requires
+    sub-step
+    part-step-start
+    part-step-end
+    sub-step-2
+    part-step-start-2
+    part-step-end-2
+    step-requires
+    sub-pass
+    pass-requires
+    add-at
+    sub-left
+    loop-less
+    loop-again
+    same-length
+    returns)

@@ -1,0 +1,86 @@
+-- `writer::turn` is safe: an entry's message lies within the space.
+-- Assumes nothing.
+use borrow.Author.Needs.{needs}
+use Prim.Native.Nat.{_+_, _≤_}
+use native.Mathlib.Omega.{arith}
+use lib.ListN.{length}
+use Rattle.feed.specs.Within.{Entered}
+use Rattle.writer.proofs.turn.Statement.{statement}
+use Rattle.writer.proofs.turn.Tie as tie
+
+-- the message that was found
+found : (c : tie.After-known-told) → Entered (length (c .before .before .before .before .before .next-entry .last .0)) (c .before .next .given .0 .0) (c .before .next .given .0 .1 .0) (c .before .next .given .0 .1 .1 .0)
+found c = rw (c .before .next .given .1) at (c .before .before .before .before .before .next-entry .ensures)
+
+next-entry-requires : tie.Need-next-entry-requires
+next-entry-requires c κs = search needs
+
+enum-known-next : tie.Need-enum-known-next
+enum-known-next c = search needs
+
+finish-requires : tie.Need-finish-requires
+finish-requires c κs = search needs
+
+same-length : tie.Need-same-length
+same-length c = search needs
+
+same-length-2 : tie.Need-same-length-2
+same-length-2 c = search needs
+
+returns : tie.Need-returns
+returns c = search needs
+
+add-end : tie.Need-add-end
+add-end c = omega (arith, found c .message)
+
+add-number-requires : tie.Need-add-number-requires
+add-number-requires c κs = search needs
+
+sub-add-writing : tie.Need-sub-add-writing
+sub-add-writing c = search needs
+
+part-add-writing-start : tie.Need-part-add-writing-start
+part-add-writing-start c = search needs
+
+part-add-writing-end : tie.Need-part-add-writing-end
+part-add-writing-end c = found (c .before .before .before .before .before .before) .message
+
+add-writing-requires : tie.Need-add-writing-requires
+add-writing-requires c κs = search needs
+
+add-byte-requires : tie.Need-add-byte-requires
+add-byte-requires c κs = search needs
+
+turn-over-requires : tie.Need-turn-over-requires
+turn-over-requires c κs = search needs
+
+same-length-3 : tie.Need-same-length-3
+same-length-3 c = search needs
+
+same-length-4 : tie.Need-same-length-4
+same-length-4 c = search needs
+
+returns-2 : tie.Need-returns-2
+returns-2 c = search needs
+
+pub turn-spec : {M : Type 1} → statement M
+turn-spec =
+    tie.close
+    (tie.spec
+    next-entry-requires
+    enum-known-next
+    finish-requires
+    same-length
+    same-length-2
+    returns
+    add-end
+    add-number-requires
+    sub-add-writing
+    part-add-writing-start
+    part-add-writing-end
+    add-writing-requires
+    add-byte-requires
+    turn-over-requires
+    same-length-3
+    same-length-4
+    returns-2)

@@ -1,0 +1,97 @@
+-- What records of frames can hold and what a touch message can hold are the same: each is of the range of the other.
+-- Assumes nothing.
+use Prim.Native.Nat.{ℕ, zero, suc, _<_, _≤_}
+use mathlib.Core.Path.{_≡_, refl}
+use mathlib.Core.Bool.{Bool, true, false}
+use mathlib.Core.List.{List, [], _∷_}
+use native.Mathlib.Omega.{arith}
+use borrow.Author.Tests.{lt-ltb, le-leb}
+use lib.Dec.{leb}
+use lib.IntN.{ℤ, pos, negsuc, natAbs}
+use Rattle.paper.specs.Refusals.{badRange}
+use Rattle.formats.specs.Format.{Each, HoldsWhen, such}
+use Rattle.integers.specs.Answer.{size}
+use Rattle.integers.specs.Integer.{limit}
+use Rattle.fields.specs.Integers.{strict}
+use Rattle.house.specs.Fits.{HeadFits, InRange, noSides}
+use Rattle.house.specs.WellFormed.{has, orientationMost, pressureMost}
+use Rattle.house.specs.declared.Head.{Head}
+use Rattle.house.specs.declared.Contact.{Contact}
+use Rattle.house.proofs.WellFormed.{in-range}
+use Rattle.touch.specs.Touch.{Frame, headOf, point, sides, orientation, pressure, optional, contact, frameHead, frame}
+use Rattle.touch.proofs.Ranges.{contact-fits, contact-well, frame-holds}
+use Rattle.frame_records.specs.Records.{contactRecord, frameRecords}
+
+-- one by one
+each-held : {A : Type 0} (P Q : Bool → A → Type 0) → ((a : A) → P false a → Q false a) → (n : ℕ) (s : List A) → Each P false n s → Each Q false n s
+unfolding Each
+each-held P Q h zero [] e = tt
+each-held P Q h zero (a ∷ s) e = absurd e
+each-held P Q h (suc n) [] e = absurd e
+each-held P Q h (suc n) (a ∷ s) e = (h a (e .0), each-held P Q h n s (e .1))
+
+-- ---- what a message holds, records hold
+
+pub contact-packs : (c : Contact) → contact strict .Holds c → contactRecord .Holds c
+contact-packs c h = (contact-fits c h, contact-well c h)
+
+pub frame-packs : (f : Frame) → frame strict false .Holds f → frameRecords .Holds f
+unfolding frame frameRecords
+frame-packs f h = (frame-holds false f h, (each-held (λ b. contact strict .Holds) (λ b. contactRecord .Holds) contact-packs _ (f .contacts) (h .1 .0), refl))
+
+pub frames-pack : (n : ℕ) (fs : List Frame) → Each (λ b. frame strict b .Holds) false n fs → Each (λ b. frameRecords .Holds) false n fs
+frames-pack = each-held (λ b. frame strict b .Holds) (λ b. frameRecords .Holds) frame-packs
+
+-- ---- and what records hold, a message holds
+
+-- a signed value's magnitude
+pub size-abs : (z : ℤ) (n : ℕ) → natAbs z ≤ n → size z < suc n
+size-abs (pos m) n h = omega arith
+size-abs (negsuc m) n h = omega arith
+
+sides-held : (there : Bool) (c : Contact) → InRange c → (there ≡ false → c .sides ≡ noSides) → HoldsWhen there (sides strict .Holds) noSides (c .sides)
+unfolding sides
+sides-held true c r a =
+    (size-abs (c .sides .left) _ (r .left), (size-abs (c .sides .top) _ (r .top), (size-abs (c .sides .right) _ (r .right), (size-abs (c .sides .bottom) _ (r .bottom), refl))))
+sides-held false c r a = a refl
+
+number-held : (there : Bool) (most v : ℕ) → v ≤ most → most < limit 2 0 → (there ≡ false → v ≡ 0) → HoldsWhen there (such (strict .u4) (λ v. leb v most) badRange .Holds) 0 v
+number-held true most v h k a = (omega arith, le-leb _ _ h)
+number-held false most v h k a = a refl
+
+pub contact-writes : (c : Contact) → contactRecord .Holds c → contact strict .Holds c
+unfolding contact point optional
+contact-writes c h =
+    let f = h .0 in
+    let r = in-range c f (h .1) in
+    let s = sides-held (has 1 (c .present)) c r (r .absentSides) in
+    let o = number-held (has 2 (c .present)) orientationMost (c .orientation) (r .orientation) (omega arith) (r .absentOrientation) in
+    let p = number-held (has 4 (c .present)) pressureMost (c .pressure) (r .pressure) (omega arith) (r .absentPressure) in
+    let fl = f .flags in
+    let pr = f .present in (
+      f .id,
+      (
+        (omega (arith, pr), lt-ltb _ _ pr),
+        (
+          (size-abs (c .place .x) _ (r .x), (size-abs (c .place .y) _ (r .y), refl)),
+          (
+            (omega (arith, fl), r .flags),
+            ((s, (o, (p, refl))), refl),
+          ),
+        ),
+      ),
+    )
+
+pub head-writes : (h : Head) → HeadFits h → frameHead strict false .Holds h
+unfolding frameHead
+head-writes h f =
+    let n = f .count in
+    ((omega (arith, n), le-leb (h .count) 63 (omega (arith, n))), (f .offset, refl))
+
+pub frame-writes : (f : Frame) → frameRecords .Holds f → frame strict false .Holds f
+unfolding frame frameRecords
+frame-writes f h =
+    (head-writes (headOf f) (h .0), (each-held (λ b. contactRecord .Holds) (λ b. contact strict .Holds) contact-writes _ (f .contacts) (h .1 .0), refl))
+
+pub frames-write : (n : ℕ) (fs : List Frame) → Each (λ b. frameRecords .Holds) false n fs → Each (λ b. frame strict b .Holds) false n fs
+frames-write = each-held (λ b. frameRecords .Holds) (λ b. frame strict b .Holds) frame-writes

@@ -1,0 +1,120 @@
+-- DEMAND 2 of touch messages: what the plain reading accepts is written back to the same bytes, and what the touch writer writes is read back to
+-- the same records and encode time.
+-- Assumes nothing.
+use Prim.Native.Nat.{ℕ, _+_, _≤_, _<_}
+use mathlib.Core.Path.{_≡_, refl, sym, ap, _∙_}
+use mathlib.Core.Bool.{Bool, true, false, cond}
+use mathlib.Core.List.{List, []}
+use native.Mathlib.Omega.{arith}
+use lib.Dec.{leb, ltb, lit<}
+use lib.ListN.{length}
+use borrow.Author.Tests.{lt-ltb, le-leb, leb-true, ltb-true}
+use Rattle.paper.specs.Refusals.{badRange, badCount, tooLong}
+use Rattle.paper.specs.declared.Milliseconds.{Milliseconds}
+use Rattle.digits.specs.Digits.{Bytes}
+use Rattle.slices.specs.Writing.{Draft, bytes, refuse}
+use Rattle.formats.specs.Format.{Got, got, bad}
+use Rattle.integers.specs.Integer.{limit}
+use Rattle.fields.specs.Integers.{strict}
+use Rattle.messages.specs.Header.{headerBytes, mostBytes, writeMessage}
+use Rattle.messages.specs.Header as event
+use Rattle.messages.proofs.Laws.{header-long, message-got, message-back, message-exact, message-sound}
+use Rattle.touch.specs.Limits.{mostFrames}
+use Rattle.touch.specs.Touch.{Frame, Touch, touch, touchHead, framesBytes}
+use Rattle.touch.proofs.Laws.{strict-touch-law}
+use Rattle.frame_records.specs.Records.{framesIn}
+use Rattle.reading.specs.Plain.{plainly}
+use Rattle.writing.specs.TouchDraft.{messageOf, framesDraft, recordsDraft, touchDraft}
+use Rattle.writing.proofs.Records.{FramesFit, frames-back, frames-read}
+use Rattle.writing.proofs.Held.{frames-pack, frames-write}
+
+-- ---- what a body that can be written is
+
+pub record Body (m : Touch) : Type 0 where
+  pub time : m .time .0 < limit 2 0
+  pub count : length (m .frames) ≤ mostFrames
+  pub frames : FramesFit (m .frames)
+
+body-is : (m : Touch) → touch strict false .Holds m → Body m
+unfolding touch touchHead
+body-is m h =
+    record { time = h .0 .0; count = leb-true _ _ (h .0 .1 .0 .1); frames = frames-pack (length (m .frames)) (m .frames) (h .1 .0) }
+
+body-holds : (m : Touch) → Body m → touch strict false .Holds m
+unfolding touch touchHead
+body-holds m b =
+    let n = b .count in
+    ((b .time, ((omega (arith, n), le-leb _ _ n), refl)), (frames-write (length (m .frames)) (m .frames) (b .frames), refl))
+
+message-long : (time : Milliseconds) (fs : List Frame) → length (messageOf time fs) ≡ headerBytes + length (touch strict false .write (record { time = time; frames = fs }))
+unfolding writeMessage
+message-long time fs = header-long event.touch _ _
+
+-- ---- the draft, where each check passes
+
+draft-is : (m : Touch) (records : List ℕ) → Body m → framesIn records ≡ got (m .frames) [] → length (messageOf (m .time) (m .frames)) ≤ mostBytes
+    → touchDraft (m .time) records ≡ bytes (messageOf (m .time) (m .frames))
+unfolding touchDraft framesDraft
+draft-is m records b e k = rw (lt-ltb _ _ (b .time), e, le-leb _ _ (b .count), le-leb _ _ k)
+
+-- A TOUCH MESSAGE THAT THE PLAIN READING ACCEPTS IS WRITTEN BACK TO THE SAME BYTES FROM ITS RECORDS AND ITS ENCODE TIME
+pub accepted-is-written-back-to-the-same-bytes : (l : List ℕ) (m : Touch) (t : List ℕ) → Bytes l → plainly l ≡ got m t → touchDraft (m .time) (framesBytes (m .frames)) ≡ bytes l
+accepted-is-written-back-to-the-same-bytes l m t hl e =
+    let law = strict-touch-law false in
+    let b = body-is m (message-sound (touch strict false) law event.touch l m t hl e) in
+    let x : l ≡ messageOf (m .time) (m .frames) = message-exact (touch strict false) law event.touch tt l m t hl e in
+    let k : length (messageOf (m .time) (m .frames)) ≤ mostBytes = rw x at (message-got (touch strict false) law event.touch l m t e .head .high) in
+    draft-is m (framesBytes (m .frames)) b (frames-back (m .frames) (b .frames)) k ∙ ap bytes (sym x)
+
+-- ---- a draft that is bytes passed every check
+
+refused : {A : Type 0} (e : ℕ) (s : List ℕ) → refuse e ≡ bytes s → A
+refused e s h = absurd (let z : _≡_ {A = ℕ} 0 1 = cc in omega arith)
+
+passed : (b : Bool) (d : Draft) (e : ℕ) (s : List ℕ) → cond b d (refuse e) ≡ bytes s → (b ≡ true) × (d ≡ bytes s)
+passed true d e s h = (refl, h)
+passed false d e s h = refused e s h
+
+pub record Written (time : Milliseconds) (records s : List ℕ) : Type 0 where
+  pub frames : List Frame
+  pub after : List ℕ
+  pub read : framesIn records ≡ got frames after
+  pub early : time .0 < limit 2 0
+  pub few : length frames ≤ mostFrames
+  pub short : length (messageOf time frames) ≤ mostBytes
+  pub same : s ≡ messageOf time frames
+
+pub written : (time : Milliseconds) (records s : List ℕ) → touchDraft time records ≡ bytes s → Written time records s
+unfolding touchDraft framesDraft
+written time records s h =
+    let p = passed (ltb (time .0) (limit 2 0)) _ badRange s h in
+    go (framesIn records) refl (ltb-true _ _ (p .0)) (p .1)
+  where
+    go : (x : Got (List Frame)) → framesIn records ≡ x → time .0 < limit 2 0 → recordsDraft time x ≡ bytes s → Written time records s
+    go (bad e) w k h = refused e s h
+    go (got fs t) w k h =
+        let p = passed (leb (length fs) mostFrames) _ badCount s h in
+        let q = passed (leb (length (messageOf time fs)) mostBytes) _ tooLong s (p .1) in
+        let z : messageOf time fs ≡ s = let v = q .1 in cc in
+        record { frames = fs; after = t; read = w; early = k; few = leb-true _ _ (p .0); short = leb-true _ _ (q .0); same = sym z }
+
+-- WHAT THE TOUCH WRITER WRITES IS READ BACK TO THE SAME RECORDS AND ENCODE TIME
+pub record ReadBack (time : Milliseconds) (records s : List ℕ) : Type 0 where
+  pub message : Touch
+  pub reads : plainly s ≡ got message []
+  pub same-time : message .time ≡ time
+  pub same-records : framesBytes (message .frames) ≡ records
+
+pub written-is-read-back-to-the-same-records-and-time : (time : Milliseconds) (records s : List ℕ) → Bytes records → touchDraft time records ≡ bytes s → ReadBack time records s
+written-is-read-back-to-the-same-records-and-time time records s b h =
+    let w = written time records s h in
+    let r = frames-read records (w .frames) (w .after) b (w .read) in
+    let m : Touch = record { time = time; frames = w .frames } in
+    let holds = body-holds m (record { time = w .early; count = w .few; frames = r .fit }) in
+    let k : headerBytes + length (touch strict false .write m) ≤ mostBytes = omega (arith, w .short, message-long time (w .frames)) in
+    record {
+      message = m;
+      reads = ap plainly (w .same) ∙ message-back (touch strict false) (strict-touch-law false) event.touch m holds k (lit< tt);
+      same-time = refl;
+      same-records = sym (r .same);
+    }

@@ -1,0 +1,38 @@
+-- The touch writer of document 01: it "takes encodeTime and a slice of records (an empty slice means no frames), and checks 10 (encodeTime), 14
+-- over all records, 7, 2, 13".
+use Prim.Native.Nat.{ℕ}
+use mathlib.Core.Bool.{false, cond}
+use mathlib.Core.List.{List}
+use lib.Dec.{ltb, leb}
+use lib.ListN.{length}
+use Rattle.paper.specs.Refusals.{badRange, badCount, tooLong}
+use Rattle.paper.specs.declared.Milliseconds.{Milliseconds}
+use Rattle.slices.specs.Writing.{Draft, bytes, refuse}
+use Rattle.formats.specs.Format.{Got, got, bad}
+use Rattle.integers.specs.Integer.{limit}
+use Rattle.fields.specs.Integers.{strict}
+use Rattle.messages.specs.Header.{writeMessage, mostBytes}
+use Rattle.messages.specs.Header as event
+use Rattle.touch.specs.Limits.{mostFrames}
+use Rattle.touch.specs.Touch.{Frame, Touch, touch}
+use Rattle.frame_records.specs.Records.{framesIn}
+
+-- the message of a time and frames
+abbrev pub messageOf : Milliseconds → List Frame → List ℕ
+messageOf time fs = writeMessage event.touch (touch strict false) (record { time = time; frames = fs })
+
+-- 7, then 2
+unfoldable pub framesDraft : Milliseconds → List Frame → Draft
+framesDraft time fs =
+    cond (leb (length fs) mostFrames)
+    (cond (leb (length (messageOf time fs)) mostBytes) (bytes (messageOf time fs)) (refuse tooLong))
+    (refuse badCount)
+
+-- 14, over all records
+abbrev pub recordsDraft : Milliseconds → Got (List Frame) → Draft
+recordsDraft time (got fs t) = framesDraft time fs
+recordsDraft time (bad e) = refuse e
+
+-- 10, for a time that U4 does not hold; 13 is every writer's last check
+unfoldable pub touchDraft : Milliseconds → List ℕ → Draft
+touchDraft time records = cond (ltb (time .0) (limit 2 0)) (recordsDraft time (framesIn records)) (refuse badRange)

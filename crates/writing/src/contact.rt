@@ -1,0 +1,107 @@
+// A contact, field by field.
+ghost use mathlib.Core.Path.{_≡_};
+ghost use mathlib.Core.Bool.{cond};
+ghost use mathlib.Core.List.{[], _++_};
+ghost use Prim.Native.Nat.{_<_};
+ghost use Rattle.formats.specs.Format.{byte};
+ghost use Rattle.fields.specs.Integers.{strict};
+ghost use Rattle.house.specs.WellFormed.{has};
+ghost use Rattle.touch.specs.Touch.{point, contact, optional, optionalOf};
+ghost use Rattle.writing.specs.Filling.{Fills};
+use crate::parts::join;
+use crate::parts::write_byte;
+use crate::parts::write_number;
+use crate::parts::write_point;
+use crate::parts::write_sides;
+use house::Contact;
+use house::Point;
+use slices::Written;
+
+// The bits of fieldsPresent.
+const SIDES: u8 = 1;
+
+const ORIENTATION: u8 = 2;
+
+const PRESSURE: u8 = 4;
+
+// Whether fieldsPresent has a bit.
+fn has_bit(present: u8, bit: u8) -> bool
+    requires { ⌜ 0 < bit ⌝ }
+    ensures { λ r. ⌜ r ≡ has bit present ⌝ }
+{
+    present / bit % 2 == 1
+}
+
+// Orientation and pressure, each where fieldsPresent says that it is there.
+fn write_numbers(out: &mut [u8], present: u8, turn: u16, press: u16) -> Written
+    ensures { λ r. ⌜ Fills (cond (has 2 present) (strict .u4 .write turn) [] ++ cond (has 4 present) (strict .u4 .write press) []) r (now (out .entry)) (now (out .exit)) ⌝ }
+{
+    let first = write_number(out, has_bit(present, ORIENTATION), turn as u32);
+    let at_press = first.bytes;
+    join(
+        first,
+        write_number(
+            &mut out[at_press..],
+            has_bit(present, PRESSURE),
+            press as u32,
+        ),
+    )
+}
+
+// The fields that fieldsPresent says are there.
+fn write_optional(out: &mut [u8], touch: Contact) -> Written
+    requires { ⌜ optional strict (touch .present) .Holds (optionalOf touch) ⌝ }
+    ensures { λ r. ⌜ Fills (optional strict (touch .present) .write (optionalOf touch)) r (now (out .entry)) (now (out .exit)) ⌝ }
+{
+    let sides = write_sides(out, has_bit(touch.present, SIDES), touch.sides);
+    let at_turn = sides.bytes;
+    join(
+        sides,
+        write_numbers(
+            &mut out[at_turn..],
+            touch.present,
+            touch.orientation,
+            touch.pressure,
+        ),
+    )
+}
+
+// The id and fieldsPresent.
+fn write_lead(out: &mut [u8], id: u8, present: u8) -> Written
+    ensures { λ r. ⌜ Fills (byte .write id ++ strict .u2 .write present) r (now (out .entry)) (now (out .exit)) ⌝ }
+{
+    let first = write_byte(out, id);
+    let at_present = first.bytes;
+    join(
+        first,
+        integers::write_u2(&mut out[at_present..], present as u16),
+    )
+}
+
+// The place and contactFlags.
+fn write_place(out: &mut [u8], place: Point, flags: u8) -> Written
+    requires { ⌜ point strict .Holds place ⌝ }
+    ensures { λ r. ⌜ Fills (point strict .write place ++ strict .u4 .write flags) r (now (out .entry)) (now (out .exit)) ⌝ }
+{
+    let first = write_point(out, place);
+    let at_flags = first.bytes;
+    join(
+        first,
+        integers::write_u4(&mut out[at_flags..], flags as u32),
+    )
+}
+
+// A contact.
+pub(crate) fn write_contact(out: &mut [u8], touch: Contact) -> Written
+    requires { ⌜ contact strict .Holds touch ⌝ }
+    ensures { λ r. ⌜ Fills (contact strict .write touch) r (now (out .entry)) (now (out .exit)) ⌝ }
+{
+    let lead = write_lead(out, touch.id, touch.present);
+    let at_place = lead.bytes;
+    let place = join(
+        lead,
+        write_place(&mut out[at_place..], touch.place, touch.flags),
+    );
+    let at_more = place.bytes;
+    join(place, write_optional(&mut out[at_more..], touch))
+}

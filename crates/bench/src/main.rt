@@ -68,11 +68,12 @@ fn turn(
             stand: last,
         };
     };
+    let from = start - 2;
     let end = start + n;
-    let received = receiver::receive(receiver, &space[start..end], output);
+    let taken = intake::take_entry(receiver, &space[from..end], output);
     let mut at = lines::add_number(page, stand.at, number);
-    at = add_answer(page, at, received.answer);
-    let kept = received.receiver;
+    at = add_answer(page, at, taken.answer);
+    let kept = taken.receiver;
     let onward = Stand {
         window: after,
         at: lines::turn_over(page, at),

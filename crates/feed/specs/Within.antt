@@ -9,8 +9,9 @@ pub record Inside (n : ℕ) (w : Window) : Type 0 where
   pub order : w .at ≤ w .end
   pub inside : w .end ≤ n
 
--- an entry's message and the window after it lie within n bytes
+-- an entry's message and the window after it lie within n bytes, and its two length bytes stand before it
 pub record Entered (n at length : ℕ) (w : Window) : Type 0 where
+  pub begins : 2 ≤ at
   pub message : at + length ≤ n
   pub window : Inside n w
 

@@ -3,6 +3,8 @@ pub mod Answering
 pub mod Bodies
 pub mod Touching
 pub mod Unique
+pub mod Weight
+pub mod Bound
 -- What is true of a receiver, of one message and of every history.
 pub mod Became
 pub mod Fitting

@@ -30,10 +30,11 @@ fn turn(space: &mut [u8], output: &mut [u8], receiver: Receiver, window: Window)
             ended: true,
         };
     };
+    let from = start - 2;
     let end = start + n;
-    let received = receiver::receive(receiver, &space[start..end], output);
-    write_records(output, received.answer.records);
-    let kept = received.receiver;
+    let taken = intake::take_entry(receiver, &space[from..end], output);
+    write_records(output, taken.answer.records);
+    let kept = taken.receiver;
     Turned {
         receiver: kept,
         window: after,

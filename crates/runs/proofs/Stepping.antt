@@ -42,7 +42,7 @@ lays-none wet d = record { kept = λ n. refl; written = λ y room. refl }
 
 -- ---- the table keeps its length
 
-after-long : (rules : Rules) (t : Table) (cs : List Contact) → length (t .states) ≡ contacts → length (after rules t cs .states) ≡ contacts
+pub after-long : (rules : Rules) (t : Table) (cs : List Contact) → length (t .states) ≡ contacts → length (after rules t cs .states) ≡ contacts
 unfolding after moved withContact
 after-long rules t [] h = h
 after-long rules t (c ∷ cs) h = after-long rules (moved rules t c) cs (simp length-set h)

@@ -30,20 +30,23 @@ same-length-2 c = search needs
 returns : tie.Need-returns
 returns c = search needs
 
+sub-from : tie.Need-sub-from
+sub-from c = omega (arith, found c .begins)
+
 add-end : tie.Need-add-end
 add-end c = omega (arith, found c .message)
 
-sub-receive : tie.Need-sub-receive
-sub-receive c = search needs
+sub-take-entry : tie.Need-sub-take-entry
+sub-take-entry c = search needs
 
-part-receive-start : tie.Need-part-receive-start
-part-receive-start c = search needs
+part-take-entry-start : tie.Need-part-take-entry-start
+part-take-entry-start c = search needs
 
-part-receive-end : tie.Need-part-receive-end
-part-receive-end c = found (c .before) .message
+part-take-entry-end : tie.Need-part-take-entry-end
+part-take-entry-end c = found (c .before) .message
 
-receive-requires : tie.Need-receive-requires
-receive-requires c κs = search needs
+take-entry-requires : tie.Need-take-entry-requires
+take-entry-requires c κs = search needs
 
 add-number-requires : tie.Need-add-number-requires
 add-number-requires c κs = search needs
@@ -76,11 +79,12 @@ turn-spec =
     same-length
     same-length-2
     returns
+    sub-from
     add-end
-    sub-receive
-    part-receive-start
-    part-receive-end
-    receive-requires
+    sub-take-entry
+    part-take-entry-start
+    part-take-entry-end
+    take-entry-requires
     add-number-requires
     add-answer-requires
     turn-over-requires

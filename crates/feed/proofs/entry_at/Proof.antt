@@ -49,7 +49,7 @@ add-t9 : tie.Need-add-t9
 add-t9 c = omega (arith, found c)
 
 returns-2 : tie.Need-returns-2
-returns-2 c = let k = found c in record { message = omega arith; window = record { order = omega arith; inside = omega arith } }
+returns-2 c = let k = found c in record { begins = omega arith; message = omega arith; window = record { order = omega arith; inside = omega arith } }
 
 pub entry-at-spec : {M : Type 1} → statement M
 entry-at-spec =

@@ -24,20 +24,23 @@ same-length c = search needs
 returns : tie.Need-returns
 returns c = search needs
 
+sub-from : tie.Need-sub-from
+sub-from c = omega (arith, found c .begins)
+
 add-end : tie.Need-add-end
 add-end c = omega (arith, found c .message)
 
-sub-receive : tie.Need-sub-receive
-sub-receive c = search needs
+sub-take-entry : tie.Need-sub-take-entry
+sub-take-entry c = search needs
 
-part-receive-start : tie.Need-part-receive-start
-part-receive-start c = search needs
+part-take-entry-start : tie.Need-part-take-entry-start
+part-take-entry-start c = search needs
 
-part-receive-end : tie.Need-part-receive-end
-part-receive-end c = found (c .before) .message
+part-take-entry-end : tie.Need-part-take-entry-end
+part-take-entry-end c = found (c .before) .message
 
-receive-requires : tie.Need-receive-requires
-receive-requires c κs = search needs
+take-entry-requires : tie.Need-take-entry-requires
+take-entry-requires c κs = search needs
 
 write-records-requires : tie.Need-write-records-requires
 write-records-requires c κs = search needs
@@ -59,11 +62,12 @@ turn-spec =
     enum-known-next
     same-length
     returns
+    sub-from
     add-end
-    sub-receive
-    part-receive-start
-    part-receive-end
-    receive-requires
+    sub-take-entry
+    part-take-entry-start
+    part-take-entry-end
+    take-entry-requires
     write-records-requires
     same-length-2
     same-length-3

@@ -1,0 +1,2 @@
+-- Entries of a bench file, taken by a receiver.
+pub mod Intake

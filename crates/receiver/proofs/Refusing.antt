@@ -30,11 +30,11 @@ pub record Numbered (n : ℕ) : Type 0 where
   pub low : 1 ≤ n
   pub high : n ≤ 13
 
-abbrev Tame : {A : Type 0} → Got A → Type 0
+abbrev pub Tame : {A : Type 0} → Got A → Type 0
 Tame (got a t) = Unit {0}
 Tame (bad n) = Numbered n
 
-and-then : {A B : Type 0} (x : Got A) (f : A → List ℕ → Got B) → Tame x → ((a : A) (t : List ℕ) → Tame (f a t)) → Tame (andThen x f)
+pub and-then : {A B : Type 0} (x : Got A) (f : A → List ℕ → Got B) → Tame x → ((a : A) (t : List ℕ) → Tame (f a t)) → Tame (andThen x f)
 and-then (got a t) f h k = k a t
 and-then (bad n) f h k = h
 
@@ -43,8 +43,8 @@ by-test true x y h k = h
 by-test false x y h k = k
 
 -- as a record, so that a chain of fields finds its formats by itself
-record Tamed {A : Type 0} (f : Format A) : Type 0 where
-  tame : (l : List ℕ) → Tame (f .read l)
+pub record Tamed {A : Type 0} (f : Format A) : Type 0 where
+  pub tame : (l : List ℕ) → Tame (f .read l)
 
 done-tame : {A : Type 0} (a : A) → Tamed (done a)
 done-tame a = record { tame = λ l. tt }
@@ -77,7 +77,7 @@ ended-tame e n a (x ∷ t) = n
 num : (n : ℕ) → T (leb 1 n) → T (leb n 13) → Numbered n
 num n l h = record { low = lit≤ l; high = lit≤ h }
 
-whole-tame : {A : Type 0} (f : Format A) → Tamed f → (l : List ℕ) → Tame (whole f trailing l)
+pub whole-tame : {A : Type 0} (f : Format A) → Tamed f → (l : List ℕ) → Tame (whole f trailing l)
 whole-tame f h l = and-then (f .read l) (ended trailing) (h .tame l) (ended-tame trailing (num trailing tt tt))
 
 byte-read : (l : List ℕ) → Tame (readByte l)
@@ -200,7 +200,7 @@ touch-head-tame =
     field-tame (frameCount strict) (λ h. h .frames) _ (such-tame _ _ _ (num badCount tt tt) u2) λ n.
     done-tame _
 
-touch-tame : (b : Bool) → Tamed (format.touch strict b)
+pub touch-tame : (b : Bool) → Tamed (format.touch strict b)
 unfolding format.touch
 touch-tame b =
     field-tame (touchHead strict) touchHeadOf _ touch-head-tame λ h.
@@ -217,7 +217,7 @@ ready-tame =
     field-tame _ (λ r. r .most) _ (little-tame 2) λ m.
     done-tame _
 
-headed-tame : (taken : ℕ → Bool) (l : List ℕ) → Tame (headed taken l)
+pub headed-tame : (taken : ℕ → Bool) (l : List ℕ) → Tame (headed taken l)
 unfolding headed
 headed-tame taken l =
     by-test (ltb (length l) headerBytes) (bad short) _ (num short tt tt)

@@ -1,0 +1,1 @@
+// Demand 1, as one statement over the public calls: it stands in proofs/.

@@ -1,10 +1,11 @@
--- How the rules, each judged by itself, make up the judgement of a frame.
+-- How what one pass over a frame's contacts finds makes up the judgement of the frame.
 -- Assumes nothing.
 use Prim.Native.Nat.{ℕ, _+_, _-_, _≤_}
 use mathlib.Core.Path.{_≡_, refl, sym, ap, _∙_}
 use mathlib.Core.Bool.{Bool, true, false, cond}
 use mathlib.Core.List.{List, _∷_}
 use native.Mathlib.Omega.{arith}
+use lib.Dec.{leb}
 use lib.IntN.{ℤ}
 use lib.ListN.{length, getD}
 use Rattle.formats.specs.Format.{Got, got, bad}
@@ -13,12 +14,12 @@ use Rattle.house.specs.declared.Contact.{Contact}
 use Rattle.contacts.specs.Table.{contacts, resting, stateAt, placeAt, active, one, countActive}
 use Rattle.contacts.specs.Conforms.{Rules, every, distinct, after, conforms}
 use Rattle.contacts.specs.Machine.{Machine, opening, Verdict, injected, ignored, cancelled, verdict}
-use Rattle.contacts.specs.Ruling.{ofRead, tableOf, rulesOf, legalIn, staysIn, came, gone, Changes, Counts, Counted, judgedAs, refused, judgedOf, rulingAs, rulingOf, unread}
-use Rattle.contacts.specs.declared.Change.{Change}
+use Rattle.contacts.specs.Ruling.{ofRead, tableOf, rulesOf, legalIn, staysIn, allowedIn, came, gone, unlawful, surveyed, Counts, Counted, judgedAs, refused, judgedOf, rulingAs, rulingOf, unread}
+use Rattle.contacts.specs.declared.Survey.{Survey}
 use Rattle.contacts.specs.declared.Judged.{Judged}
 use Rattle.contacts.specs.declared.Ruling.{Ruling}
 use Rattle.contacts.specs.declared.Ruling.the-variants as Ruling
-use Rattle.contacts.proofs.Conforms.{inTable, after-whole, after-count}
+use Rattle.contacts.proofs.Conforms.{inTable, both-left, every-both, after-whole, after-count}
 use Rattle.contacts.proofs.Table.{Whole, resting-whole, resting-count, count-all}
 
 -- one contact more, counted
@@ -34,6 +35,12 @@ module _ (states : List ℕ) (a r : ℕ) (c : Contact) where
 never : {P : Type 0} → true ≡ false → P
 never e = absurd (let z : _≡_ {A = ℕ} 0 1 = cc in omega arith)
 
+-- three tests and a fourth, the second and the third together or one after the other
+nest : (d l s f : Bool) → cond d (cond l (cond s f false) false) false ≡ cond (cond d (cond l s false) false) f false
+nest true true s f = refl
+nest true false s f = refl
+nest false l s f = refl
+
 -- what a judgement says of the number that it was made of
 module _ (b : Bool) (k : ℕ) (j : Judged) (e : j ≡ cond b (record { conforms = true; active = k }) refused) where
   same-conforms : b ≡ j .conforms
@@ -46,43 +53,50 @@ module _ (b : Bool) (k : ℕ) (j : Judged) (e : j ≡ cond b (record { conforms 
   same-active : b ≡ true → j .active ≡ k
   same-active h = let w : j ≡ record { conforms = true; active = k } = rw h at e in ap (λ (i : Judged). i .active) w
 
--- ---- the judgement, rule by rule, of the contacts that are read as x: d is what the test of the ids answers, l that of the states, s that of
--- the positions
+-- ---- the judgement, of the contacts that are read as x: v is what one pass over them finds
 
 module _ (most : ℕ) (states : List ℕ) (xs ys : List ℤ) where
   abbrev judged : List Contact → Judged
   judged = judgedOf (rulesOf most) (tableOf states xs ys)
 
-  pub twice : (x : Got (List Contact)) (d : Bool) → d ≡ ofRead false distinct x → d ≡ false → refused ≡ ofRead refused judged x
-  unfolding judgedOf conforms
-  twice (got cs t) d ed hd = rw (sym ed ∙ hd)
-  twice (bad e) d ed hd = refl
+  -- the two rules of single contacts, each by itself
+  allowed : (cs : List Contact) → every (allowedIn states xs ys) cs ≡ cond (every (legalIn states) cs) (every (staysIn xs ys) cs) false
+  allowed cs = every-both (allowedIn states xs ys) (legalIn states) (staysIn xs ys) (λ c. refl) cs
 
-  pub unlawful : (x : Got (List Contact)) (d l : Bool) → d ≡ ofRead false distinct x → d ≡ true → l ≡ ofRead false (every (legalIn states)) x → l ≡ false
-      → refused ≡ ofRead refused judged x
-  unfolding judgedOf conforms stateAt
-  unlawful (got cs t) d l ed hd el hl = rw (sym ed ∙ hd, sym el ∙ hl)
-  unlawful (bad e) d l ed hd el hl = refl
+  -- conforming, where the pass finds nothing and the count decides
+  conforming : (cs : List Contact) → conforms (rulesOf most) (tableOf states xs ys) cs
+      ≡ cond (cond (distinct cs) (every (allowedIn states xs ys) cs) false) (leb (countActive (after (rulesOf most) (tableOf states xs ys) cs .states)) most) false
+  unfolding conforms stateAt placeAt
+  conforming cs = rw (allowed cs) (nest (distinct cs) (every (legalIn states) cs) (every (staysIn xs ys) cs) _)
 
-  pub displaced : (x : Got (List Contact)) (d l s : Bool) → d ≡ ofRead false distinct x → d ≡ true → l ≡ ofRead false (every (legalIn states)) x → l ≡ true
-      → s ≡ ofRead false (every (staysIn xs ys)) x → s ≡ false → refused ≡ ofRead refused judged x
-  unfolding judgedOf conforms stateAt placeAt
-  displaced (got cs t) d l s ed hd el hl es hs = rw (sym ed ∙ hd, sym el ∙ hl, sym es ∙ hs)
-  displaced (bad e) d l s ed hd el hl es hs = refl
+  -- what the pass says by its mark
+  lawful-is : (d : Bool) (k j : ℕ) (v : Survey) → v ≡ cond d (record { lawful = true; came = k; gone = j }) unlawful → v .lawful ≡ d
+  lawful-is true k j v e = ap (λ (i : Survey). i .lawful) e
+  lawful-is false k j v e = ap (λ (i : Survey). i .lawful) e
 
-  -- what the count of active contacts decides: k before the frame, and r the change by it
-  pub record Decided (x : Got (List Contact)) (k : ℕ) (r : Change) : Type 0 where
-    pub fits : r .gone ≤ k + r .came
-    pub same : judgedAs most (k + r .came - r .gone) ≡ ofRead refused judged x
+  pub breaks : (x : Got (List Contact)) (v : Survey) → v ≡ ofRead unlawful (surveyed states xs ys) x → v .lawful ≡ false → refused ≡ ofRead refused judged x
+  unfolding judgedOf surveyed
+  breaks (got cs t) v e h = rw (conforming cs, sym (lawful-is (cond (distinct cs) (every (allowedIn states xs ys) cs) false) _ _ v e) ∙ h)
+  breaks (bad e) v ev h = refl
 
-  pub decided : (x : Got (List Contact)) (k : ℕ) (r : Change) (d l s : Bool) → d ≡ ofRead false distinct x → d ≡ true → l ≡ ofRead false (every (legalIn states)) x → l ≡ true
-      → s ≡ ofRead false (every (staysIn xs ys)) x → s ≡ true → ofRead true (every inTable) x ≡ true → Changes states x r → Counted k states → Decided x k r
-  unfolding judgedOf conforms stateAt placeAt
-  decided (got cs t) k r d l s ed hd el hl es hs i h q =
-      let n = after-count (rulesOf most) (tableOf states xs ys) cs (sym ed ∙ hd) i (q .all) in
-      let e : k + r .came - r .gone ≡ countActive (after (rulesOf most) (tableOf states xs ys) cs .states) = omega (arith, n, h .came, h .gone, q .same) in
-      record { fits = omega (arith, n, h .came, h .gone, q .same); same = rw (e, sym ed ∙ hd, sym el ∙ hl, sym es ∙ hs) }
-  decided (bad e) k r d l s ed hd el hl es hs i h q = never (sym hd ∙ ed)
+  -- what the count of active contacts decides: k before the frame, and v what the pass found
+  pub record Decided (x : Got (List Contact)) (k : ℕ) (v : Survey) : Type 0 where
+    pub fits : v .gone ≤ k + v .came
+    pub same : judgedAs most (k + v .came - v .gone) ≡ ofRead refused judged x
+
+  pub decided : (x : Got (List Contact)) (k : ℕ) (v : Survey) → v ≡ ofRead unlawful (surveyed states xs ys) x → v .lawful ≡ true
+      → ofRead true (every inTable) x ≡ true → Counted k states → Decided x k v
+  unfolding judgedOf surveyed
+  decided (got cs t) k v e h i q =
+      let b = cond (distinct cs) (every (allowedIn states xs ys) cs) false in
+      let w : b ≡ true = sym (lawful-is b _ _ v e) ∙ h in
+      let f : v ≡ record { lawful = true; came = came next states cs; gone = gone states cs } = rw w at e in
+      let n = after-count (rulesOf most) (tableOf states xs ys) cs (both-left (distinct cs) _ w) i (q .all) in
+      let ec : v .came ≡ came next states cs = ap (λ (i : Survey). i .came) f in
+      let eg : v .gone ≡ gone states cs = ap (λ (i : Survey). i .gone) f in
+      let m : k + v .came - v .gone ≡ countActive (after (rulesOf most) (tableOf states xs ys) cs .states) = omega (arith, n, ec, eg, q .same) in
+      record { fits = omega (arith, n, ec, eg, q .same); same = rw (m, conforming cs, w) }
+  decided (bad x) k v e h i q = never (sym h ∙ ap (λ (i : Survey). i .lawful) e)
 
   -- ---- the ruling, where o is whether the frame is judged
 

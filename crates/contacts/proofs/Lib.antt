@@ -6,4 +6,5 @@ pub mod Seen
 pub mod Reading
 pub mod Signed
 pub mod Judgement
+pub mod Scanning
 pub mod Unique

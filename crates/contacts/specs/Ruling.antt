@@ -12,9 +12,9 @@ use Rattle.states.specs.Table.{out, next}
 use Rattle.house.specs.declared.Contact.{Contact}
 use Rattle.touch.specs.Touch.{contact}
 use Rattle.contacts.specs.Table.{Table, contacts, active, one, countActive}
-use Rattle.contacts.specs.Conforms.{Rules, legal, stays, after, conforms}
+use Rattle.contacts.specs.Conforms.{Rules, every, distinct, legal, stays, after, conforms}
 use Rattle.contacts.specs.Machine.{Machine, Verdict, injected, ignored, cancelled, verdict}
-use Rattle.contacts.specs.declared.Change.{Change}
+use Rattle.contacts.specs.declared.Survey.{Survey}
 use Rattle.contacts.specs.declared.Judged.{Judged}
 use Rattle.contacts.specs.declared.Ruling.{Ruling}
 use Rattle.contacts.specs.declared.Ruling.the-variants as Ruling
@@ -42,6 +42,9 @@ legalIn states = legal (rulesOf 0) (tableOf states [] [])
 abbrev pub staysIn : List ℤ → List ℤ → Contact → Bool
 staysIn xs ys = stays (tableOf [] xs ys)
 
+abbrev pub allowedIn : List ℕ → List ℤ → List ℤ → Contact → Bool
+allowedIn states xs ys c = cond (legalIn states c) (staysIn xs ys c) false
+
 -- ---- how a frame changes the number of active contacts
 
 -- how many of its contacts are active after their own step from these states, and how many were before it
@@ -53,10 +56,13 @@ unfoldable pub gone : List ℕ → List Contact → ℕ
 gone states [] = 0
 gone states (c ∷ cs) = one (active (getD states (c .id) out)) + gone states cs
 
--- the change by a frame whose contacts are read as x
-pub record Changes (states : List ℕ) (x : Got (List Contact)) (r : Change) : Type 0 where
-  pub came : r .came ≡ ofRead 0 (came next states) x
-  pub gone : r .gone ≡ ofRead 0 (gone states) x
+-- what one pass over the contacts finds, and what it finds of a frame that breaks a rule
+abbrev pub unlawful : Survey
+unlawful = record { lawful = false; came = 0; gone = 0 }
+
+unfoldable pub surveyed : List ℕ → List ℤ → List ℤ → List Contact → Survey
+surveyed states xs ys cs =
+    cond (cond (distinct cs) (every (allowedIn states xs ys) cs) false) (record { lawful = true; came = came next states cs; gone = gone states cs }) unlawful
 
 -- the answer of a count: of 256 states, as many as a table has
 pub record Counts (states : List ℕ) (r : ℕ) : Type 0 where

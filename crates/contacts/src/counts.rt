@@ -1,13 +1,11 @@
-// How many contacts are active, and how a frame changes that.
-use crate::Change;
-use touch::ReadContact;
+// How many contacts are active.
 ghost use mathlib.Core.Path.{_≡_};
 ghost use Prim.Native.Nat.{_≤_};
 ghost use Rattle.contacts.specs.Table.{active, one};
-ghost use Rattle.contacts.specs.Ruling.{contactsOf, Counts, Changes};
+ghost use Rattle.contacts.specs.Ruling.{Counts};
 
 // A state counts as one where it is active.
-fn one_if_active(state: u8) -> u16
+pub(crate) fn one_if_active(state: u8) -> u16
     ensures { λ r. ⌜ (r ≡ one (active state)) × (r ≤ 1) ⌝ }
 {
     if state == states::OUT {
@@ -29,30 +27,4 @@ pub fn count_active(states: &[u8; 256]) -> u16
         i += 1;
     }
     n
-}
-
-// How a frame changes the number of active contacts: each by its state before and after.
-pub(crate) fn change_by(rest: &[u8], n: u16, states: &[u8; 256]) -> Change
-    ensures { λ r. ⌜ Changes (now (states .entry)) (contactsOf n (now (rest .entry))) r ⌝ }
-{
-    let mut came: u16 = 0;
-    let mut gone: u16 = 0;
-    let mut at: usize = 0;
-    let mut left = n;
-    while 0 < left {
-        let got = touch::read_contact(&rest[at..]);
-        let ReadContact::Value(contact, k) = got else {
-            return Change { came: 0, gone: 0 };
-        };
-        let i = contact.id as usize;
-        let before = states[i];
-        came += one_if_active(states::next_state(contact.flags, before));
-        gone += one_if_active(before);
-        at += k;
-        left -= 1;
-    }
-    Change {
-        came: came,
-        gone: gone,
-    }
 }

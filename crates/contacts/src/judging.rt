@@ -1,9 +1,9 @@
 // A frame judged, and what becomes of it.
-use crate::Change;
 use crate::Judged;
 use crate::Ruling;
-use crate::counts::change_by;
+use crate::Survey;
 use crate::rules;
+use crate::scan::survey;
 ghost use mathlib.Core.Path.{_≡_};
 ghost use mathlib.Core.Bool.{true, false, cond};
 ghost use Prim.Native.Nat.{_+_, _-_, _≤_};
@@ -11,11 +11,11 @@ ghost use Rattle.contacts.specs.Machine.{opening};
 ghost use Rattle.contacts.specs.Ruling.{contactsOf, ofRead, tableOf, judgedAs, Judges, Decides};
 
 // At most so many contacts are active after the frame.
-fn settle(change: Change, active: u16, most: u16) -> Judged
-    ensures { λ r. ⌜ (change .gone ≤ active + change .came → r ≡ judgedAs most (active + change .came - change .gone)) ⌝ }
+fn settle(found: Survey, active: u16, most: u16) -> Judged
+    ensures { λ r. ⌜ (found .gone ≤ active + found .came → r ≡ judgedAs most (active + found .came - found .gone)) ⌝ }
 {
-    let came = active as u32 + change.came as u32;
-    let gone = change.gone as u32;
+    let came = active as u32 + found.came as u32;
+    let gone = found.gone as u32;
     if came < gone {
         return Judged {
             conforms: false,
@@ -47,12 +47,9 @@ pub fn judge(
 ) -> Judged
     ensures { λ r. ⌜ Judges (tableOf (now (states .entry)) (now (xs .entry)) (now (ys .entry))) most active (contactsOf n (now (rest .entry))) r ⌝ }
 {
-    if rules::ids_distinct(rest, n) {
-        if rules::all_legal(rest, n, states) {
-            if rules::all_stay(rest, n, xs, ys) {
-                return settle(change_by(rest, n, states), active, most);
-            }
-        }
+    let found = survey(rest, n, states, xs, ys);
+    if found.lawful {
+        return settle(found, active, most);
     }
     Judged {
         conforms: false,

@@ -2,14 +2,17 @@
 mod counts;
 mod judging;
 mod rules;
+mod scan;
 
 pub use counts::count_active;
 pub use judging::judge;
 pub use judging::verdict_of;
 pub use rules::is_opening;
 
-// How many contacts of a frame are active after it, and how many were before.
-pub(crate) struct Change {
+// What one pass over a frame's contacts finds: whether the rules of single contacts hold and no id is there twice; and how many of
+// them are active after the frame, and how many were before: 0 and 0 where a rule is broken.
+pub(crate) struct Survey {
+    pub lawful: bool,
     pub came: u16,
     pub gone: u16,
 }

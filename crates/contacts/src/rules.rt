@@ -1,4 +1,4 @@
-// The rules that the contacts of a frame obey: one loop for each.
+// The rules that a contact of a frame obeys, and whether a frame is opening.
 use house::Contact;
 use house::Point;
 use touch::ReadContact;
@@ -6,32 +6,9 @@ ghost use mathlib.Core.Path.{_≡_};
 ghost use mathlib.Core.Bool.{false};
 ghost use mathlib.Core.List.{[]};
 ghost use Rattle.contacts.specs.Table.{placeAt};
-ghost use Rattle.contacts.specs.Conforms.{every, distinct, lifts, sameNumber, samePlace};
+ghost use Rattle.contacts.specs.Conforms.{every, lifts, sameNumber, samePlace};
 ghost use Rattle.contacts.specs.Machine.{isDown, opening};
-ghost use Rattle.contacts.specs.Ruling.{contactsOf, ofRead, tableOf, legalIn, staysIn};
-
-// No id is in the frame twice.
-pub(crate) fn ids_distinct(rest: &[u8], n: u16) -> bool
-    ensures { λ r. ⌜ r ≡ ofRead false distinct (contactsOf n (now (rest .entry))) ⌝ }
-{
-    let mut seen = [false; 256];
-    let mut at: usize = 0;
-    let mut left = n;
-    while 0 < left {
-        let got = touch::read_contact(&rest[at..]);
-        let ReadContact::Value(contact, k) = got else {
-            return false;
-        };
-        let i = contact.id as usize;
-        if seen[i] {
-            return false;
-        }
-        seen[i] = true;
-        at += k;
-        left -= 1;
-    }
-    true
-}
+ghost use Rattle.contacts.specs.Ruling.{contactsOf, ofRead, tableOf, legalIn, staysIn, allowedIn};
 
 // Whether a contact's flags lead to a state from the one that it has.
 fn is_legal(contact: Contact, states: &[u8; 256]) -> bool
@@ -39,27 +16,6 @@ fn is_legal(contact: Contact, states: &[u8; 256]) -> bool
 {
     let own = contact.id as usize;
     states::next_state(contact.flags, states[own]) != states::ILLEGAL
-}
-
-// Each contact is legal from its state before the frame.
-pub(crate) fn all_legal(rest: &[u8], n: u16, states: &[u8; 256]) -> bool
-    ensures { λ r. ⌜ r ≡ ofRead false (every (legalIn (now (states .entry)))) (contactsOf n (now (rest .entry))) ⌝ }
-{
-    let mut at: usize = 0;
-    let mut left = n;
-    while 0 < left {
-        let got = touch::read_contact(&rest[at..]);
-        let ReadContact::Value(contact, k) = got else {
-            return false;
-        };
-        if is_legal(contact, states) {
-            at += k;
-            left -= 1;
-        } else {
-            return false;
-        }
-    }
-    true
 }
 
 // Flags with which the position must be the stored one.
@@ -102,25 +58,19 @@ fn is_in_place(contact: Contact, xs: &[i32; 256], ys: &[i32; 256]) -> bool
     true
 }
 
-// Positions obey the rule.
-pub(crate) fn all_stay(rest: &[u8], n: u16, xs: &[i32; 256], ys: &[i32; 256]) -> bool
-    ensures { λ r. ⌜ r ≡ ofRead false (every (staysIn (now (xs .entry)) (now (ys .entry)))) (contactsOf n (now (rest .entry))) ⌝ }
+// Whether a contact obeys both rules that look at no other contact of its frame.
+pub(crate) fn is_allowed(
+    contact: Contact,
+    states: &[u8; 256],
+    xs: &[i32; 256],
+    ys: &[i32; 256],
+) -> bool
+    ensures { λ r. ⌜ r ≡ allowedIn (now (states .entry)) (now (xs .entry)) (now (ys .entry)) contact ⌝ }
 {
-    let mut at: usize = 0;
-    let mut left = n;
-    while 0 < left {
-        let got = touch::read_contact(&rest[at..]);
-        let ReadContact::Value(contact, k) = got else {
-            return false;
-        };
-        if is_in_place(contact, xs, ys) {
-            at += k;
-            left -= 1;
-        } else {
-            return false;
-        }
+    if is_legal(contact, states) {
+        return is_in_place(contact, xs, ys);
     }
-    true
+    false
 }
 
 // Each contact has 0x19.

@@ -26,19 +26,11 @@ use Rattle.moves.proofs.Dismissal.{dismiss-length}
 use Rattle.receiver.specs.declared.Receiver.{Receiver}
 use Rattle.receiver.specs.Receive.{Effect, takes, rulesOf, machineOf, untimed, judged, framesFor, settled, touched, dismissedBy, bodyEffect, effect}
 use Rattle.receiver.specs.Events.{readyEffect, touchEffect, dismissEffect}
-use Rattle.receiver.proofs.Weight.{weight, weight-timed, body-weight, run-weight}
+use Rattle.receiver.proofs.Weight.{touch-small}
 
 -- 48 KiB
 abbrev pub mostOutput : ℕ
 mostOutput = 49152
-
-weight-for : (r : Receiver) (fs : List Frame) → weight (framesFor r fs) ≡ weight fs
-unfolding framesFor
-weight-for r fs = go (untimed r)
-  where
-    go : (b : Bool) → weight (cond b (map withoutOffset fs) fs) ≡ weight fs
-    go true = weight-timed fs
-    go false = refl
 
 -- what a body leads to
 from-body : {A : Type 0} (f : A → Effect) (x : Got A) (e : Effect) (t : List ℕ) → andThen x (λ a u. got (f a) u) ≡ got e t → ((a : A) (u : List ℕ) → x ≡ got a u → length (f a .bytes) ≤ mostOutput)
@@ -54,17 +46,12 @@ dismiss-small t id = go (eqb (stateAt t id) hovering) refl
     go false e = rw (keep-bytes t id (eqb-false (stateAt t id) hovering e)) (omega arith)
 
 module _ (r : Receiver) (h : length (r .states) ≡ contacts) where
-  touch-small : (b : List ℕ) (m : Touch) (t : List ℕ) → length b ≤ 4090 → body strict (judged r) b ≡ got m t → length (touched r m .bytes) ≤ mostOutput
-  unfolding touched
-  touch-small b m t s w =
-      omega (arith, run-weight (rulesOf r) (machineOf r) (framesFor r (m .frames)) h, weight-for r (m .frames), body-weight (judged r) b m t w, count-le (r .states))
-
   body-small : (n : ℕ) (b : List ℕ) (e : Effect) (t : List ℕ) → length b ≤ 4090 → bodyEffect r n b ≡ got e t → length (e .bytes) ≤ mostOutput
   body-small n b e t s w = go (eqb n clientReady) (eqb n touch) w
     where
       go : (x y : Bool) → cond x (readyEffect r b) (cond y (touchEffect r b) (dismissEffect r b)) ≡ got e t → length (e .bytes) ≤ mostOutput
       go true y w = from-body (settled r) (whole ready trailing b) e t w (λ a u k. omega arith)
-      go false true w = from-body (touched r) (body strict (judged r) b) e t w (λ m u k. touch-small b m u s k)
+      go false true w = from-body (touched r) (body strict (judged r) b) e t w (λ m u k. omega (arith, touch-small r h b m u k))
       go false false w = from-body (dismissedBy r) (whole byte trailing b) e t w (λ id u k. dismiss-small (machineOf r .table) id)
 
   -- no message writes more than 48 KiB

@@ -1,11 +1,12 @@
 -- Touch messages: their frames counted, and carried out where there is room.
 -- Assumes nothing.
-use Prim.Native.Nat.{ℕ, _-_, _*_, _/_, _≤_, _<_}
+use Prim.Native.Nat.{ℕ, _+_, _-_, _*_, _/_, _≤_, _<_}
 use mathlib.Core.Path.{_≡_, refl, sym, ap, _∙_}
 use mathlib.Core.Bool.{Bool, true, false, cond, not}
 use mathlib.Core.List.{List, [], _∷_}
 use native.Mathlib.Omega.{arith}
-use borrow.Author.Tests.{ne-eqb}
+use borrow.Author.Tests.{ne-eqb, leb-true, leb-false}
+use lib.Dec.{leb}
 use lib.ListN.{length, take, drop}
 use Rattle.paper.specs.Refusals.{none, noRoom}
 use Rattle.paper.specs.declared.Milliseconds.{Milliseconds}
@@ -20,7 +21,7 @@ use Rattle.touch.specs.declared.TouchHead.{TouchHead}
 use Rattle.touch.specs.declared.CheckedBody.{CheckedBody}
 use Rattle.touch.specs.declared.CheckedBody.the-variants as CheckedBody
 use Rattle.touch.proofs.Passes.{frameBy, frames-freed, Checked, checked}
-use Rattle.contacts.specs.Table.{Table}
+use Rattle.contacts.specs.Table.{Table, contacts}
 use Rattle.contacts.specs.Machine.{Machine, Counts, runBytes}
 use Rattle.contacts.specs.Ruling.{Counted}
 use Rattle.runs.specs.Runs.{timedFrames, Ran, Runs}
@@ -29,7 +30,8 @@ use Rattle.receiver.specs.declared.Receiver.{Receiver}
 use Rattle.receiver.specs.declared.Answer.{Answer}
 use Rattle.receiver.specs.declared.Received.{Received}
 use Rattle.receiver.specs.Receive.{off, mark, rulesOf, machineOf, untimed, judged, framesFor, timeFor, begunAfter, touched, refusal, answerOf}
-use Rattle.receiver.specs.Events.{begunBy, answerTo, Gives, touchEffect, Tallies, Carried, Carries}
+use Rattle.receiver.specs.Events.{begunBy, answerTo, Gives, touchEffect, Tallies, Rooms, Carried, Carries}
+use Rattle.receiver.proofs.Weight.{touch-small}
 use Rattle.receiver.proofs.Answering.{gives-refused, gives-none, gives-done}
 
 -- ---- the frames as a run takes them, and as the receiver's definition does
@@ -51,6 +53,25 @@ begun-is r (f ∷ fs) = rw (ne-eqb (length (f ∷ fs)) 0 (λ e. omega arith))
 
 quotient : (k n : ℕ) → 21 * k ≡ n → k ≡ n / 21
 quotient k n e = omega arith
+
+-- ---- room
+
+bool-never : {P : Type 0} → true ≡ false → P
+bool-never e = absurd (let z : _≡_ {A = ℕ} 0 1 = cc in omega arith)
+
+module _ (r : Receiver) (n : ℕ) (l : List ℕ) (bytes : ℕ) (before : List ℕ) where
+  -- enough for whatever the bytes can give
+  pub rooms-all : bytes / 2 + contacts ≤ length before / 21 → Rooms r n l bytes true before before
+  rooms-all h =
+      record { short = λ w fs rest e. bool-never w; enough = λ w fs rest e s. omega arith; kept = λ fs rest e. refl }
+
+  pub rooms-counted : (k : ℕ) (after : List ℕ) (roomy : Bool) → Tallies r n l k before after → roomy ≡ leb (21 * k) (length after) → Rooms r n l bytes roomy before after
+  rooms-counted k after roomy t w =
+      record {
+        short = λ h fs rest e. let q : length after < 21 * k = leb-false _ _ (sym w ∙ h) in omega (arith, q, t .count fs rest e, ap length (t .kept fs rest e));
+        enough = λ h fs rest e s. let q : 21 * k ≤ length after = leb-true _ _ (sym w ∙ h) in omega (arith, q, t .count fs rest e, ap length (t .kept fs rest e));
+        kept = t .kept;
+      }
 
 module _ (r : Receiver) (l : List ℕ) (un : Bool) (eu : un ≡ untimed r) (active : ℕ) (a : Counted active (r .states)) (run : Run) (u : Table) (before after : List ℕ) where
   -- ---- counted
@@ -107,7 +128,7 @@ module _ (r : Receiver) (l : List ℕ) (un : Bool) (eu : un ≡ untimed r) (acti
           }
 
     pub carries : Carries r h l before (record { receiver = record { ready = r .ready; begun = b; ignoring = i; settings = r .settings; states = u .states; xs = u .xs; ys = u .ys }; answer = answer }) after
-    carries m rest eh e room = carried m rest eh e room
+    carries = record { whole = a .all; carried = carried }
 
 -- ---- the whole body
 
@@ -124,31 +145,32 @@ module _ (r : Receiver) (b : List ℕ) (j : Bool) (ej : j ≡ judged r) (before 
           let kn : k ≡ z = f ∙ ap checkedRefusal e ∙ sym zn in
           gives-refused r before q (touchEffect r b) z (rw v) (a ∙ ap (λ (y : ℕ). record { receiver = r; answer = refusal y }) kn)
 
-  module _ (h : TouchHead) (at : ℕ) (c : Checks j b (CheckedBody.Body h at)) (k : ℕ) (mid : List ℕ) (t : Tallies r (h .frames) (take (length b - at) (drop at b)) k before mid) where
+  module _ (h : TouchHead) (at : ℕ) (c : Checks j b (CheckedBody.Body h at)) (roomy : Bool) (mid : List ℕ)
+      (t : Rooms r (h .frames) (take (length b - at) (drop at b)) (length b) roomy before mid) where
     it : Checked j b h at
     it = checked j b h at c
 
+    read : body strict (judged r) b ≡ got (it .message) []
+    read = sym (ap (λ (y : Bool). body strict y b) ej) ∙ it .read
+
     effect-is : touchEffect r b ≡ got (touched r (it .message)) []
-    effect-is = let v : body strict (judged r) b ≡ got (it .message) [] = sym (ap (λ (y : Bool). body strict y b) ej) ∙ it .read in rw v
+    effect-is = let v = read in rw v
 
     frames-are : readSeries frameBy false (h .frames) (take (length b - at) (drop at b)) ≡ got (it .message .frames) []
     frames-are = rw (tail b at) (frames-freed j (h .frames) (drop at b) (it .message .frames) [] (it .frames))
 
-    long : 21 * k ≡ length (touched r (it .message) .bytes)
-    long = t .count (it .message .frames) [] frames-are ∙ sym (ap length (bytes-of r (it .message)))
-
     same : mid ≡ before
     same = t .kept (it .message .frames) [] frames-are
 
-    pub touch-none : length mid < 21 * k → q ≡ record { receiver = r; answer = refusal noRoom } → Gives r (touchEffect r b) before q mid
+    pub touch-none : roomy ≡ false → q ≡ record { receiver = r; answer = refusal noRoom } → Gives r (touchEffect r b) before q mid
     touch-none room a =
-        let n = ap length same in
-        let s = long in
-        rw same (gives-none r before q (touchEffect r b) (touched r (it .message)) [] effect-is (omega arith) a)
+        let w : length before < length (touched r (it .message) .bytes) = rw (bytes-of r (it .message)) (t .short room (it .message .frames) [] frames-are) in
+        rw same (gives-none r before q (touchEffect r b) (touched r (it .message)) [] effect-is w a)
 
-    pub touch-done : (after : List ℕ) → 21 * k ≤ length mid → Carries r h (take (length b - at) (drop at b)) mid q after → Gives r (touchEffect r b) before q after
+    pub touch-done : (after : List ℕ) → roomy ≡ true → Carries r h (take (length b - at) (drop at b)) mid q after → Gives r (touchEffect r b) before q after
     touch-done after room y =
+        let e = bytes-of r (it .message) in
         let n = ap length same in
-        let s = long in
-        let d = y (it .message) [] (it .head) frames-are (omega arith) in
-        gives-done r before q (touchEffect r b) (touched r (it .message)) [] effect-is after (omega arith) (d .answer) (d .output ∙ ap (λ (y : List ℕ). laid y (touched r (it .message) .bytes)) same)
+        let w : length (touched r (it .message) .bytes) ≤ length before = rw e (t .enough room (it .message .frames) [] frames-are (rw e at (touch-small r (y .whole) b (it .message) [] read))) in
+        let d = y .carried (it .message) [] (it .head) frames-are (omega arith) in
+        gives-done r before q (touchEffect r b) (touched r (it .message)) [] effect-is after w (d .answer) (d .output ∙ ap (λ (y : List ℕ). laid y (touched r (it .message) .bytes)) same)

@@ -1,6 +1,6 @@
 -- How many bytes the frames of a message take at least, and their records at most.
 -- Assumes nothing.
-use Prim.Native.Nat.{ℕ, zero, suc, _+_, _*_, _≤_}
+use Prim.Native.Nat.{ℕ, zero, suc, _+_, _*_, _/_, _≤_}
 use mathlib.Core.Path.{_≡_, refl, ap}
 use mathlib.Core.Bool.{Bool, true, false, cond}
 use mathlib.Core.List.{List, [], _∷_, map}
@@ -16,6 +16,7 @@ use Rattle.integers.specs.Integer.{Reading, value, refused, reading, tops, sign
 use Rattle.integers.specs.Integer as integers
 use Rattle.integers.proofs.Laws.{reading-inside, never}
 use Rattle.fields.specs.Integers.{Shape, unsigned, signed, gotBy, integer, Integers, strict}
+use Rattle.house.specs.Fields.{recordBytes}
 use Rattle.house.specs.WellFormed.{has}
 use Rattle.house.specs.Fits.{noSides}
 use Rattle.house.specs.declared.Contact.{Contact}
@@ -26,10 +27,12 @@ use Rattle.frame_records.proofs.Laws.{length-frame}
 use Rattle.contacts.specs.Table.{Table, contacts, active, one, withContact, countActive}
 use Rattle.contacts.specs.Conforms.{Rules, nextOf, moved, after}
 use Rattle.contacts.specs.Machine.{Machine, Verdict, injected, ignored, cancelled, verdict, machineAfter, bytesFor, stepMachine, stepBytes, runBytes}
-use Rattle.contacts.proofs.Table.{one-le, resting-whole, resting-count}
+use Rattle.contacts.proofs.Table.{one-le, count-le, resting-whole, resting-count}
 use Rattle.contacts.proofs.Machine.{cancels-length}
 use Rattle.runs.specs.Runs.{withoutOffset}
 use Rattle.runs.proofs.Stepping.{after-long}
+use Rattle.receiver.specs.declared.Receiver.{Receiver}
+use Rattle.receiver.specs.Receive.{rulesOf, machineOf, untimed, judged, framesFor, touched}
 
 -- ---- a format takes n bytes at least
 
@@ -240,3 +243,19 @@ module _ (rules : Rules) where
       let a = verdict-weight m f v h in
       let b = run-weight (stepMachine rules m f) fs (verdict-long m (f .contacts) v h) in
       rw length-append (omega (arith, a, b))
+
+-- ---- a touch message: two bytes of its body give at most one record, beside a cancel for each contact
+
+weight-for : (r : Receiver) (fs : List Frame) → weight (framesFor r fs) ≡ weight fs
+unfolding framesFor
+weight-for r fs = go (untimed r)
+  where
+    go : (b : Bool) → weight (cond b (map withoutOffset fs) fs) ≡ weight fs
+    go true = weight-timed fs
+    go false = refl
+
+pub touch-small : (r : Receiver) → length (r .states) ≡ contacts → (b : List ℕ) (m : Touch) (t : List ℕ) → body strict (judged r) b ≡ got m t
+    → length (touched r m .bytes) ≤ recordBytes * (length b / 2 + contacts)
+unfolding touched
+touch-small r h b m t w =
+    omega (arith, run-weight (rulesOf r) (machineOf r) (framesFor r (m .frames)) h, weight-for r (m .frames), body-weight (judged r) b m t w, count-le (r .states))

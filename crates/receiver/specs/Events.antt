@@ -1,7 +1,7 @@
 -- What the calls for the single events answer: of the effect that a body has, and of the frames of a touch message.
-use Prim.Native.Nat.{ℕ, _*_, _/_, _%_, _≤_}
+use Prim.Native.Nat.{ℕ, _+_, _*_, _/_, _%_, _≤_, _<_}
 use mathlib.Core.Path.{_≡_}
-use mathlib.Core.Bool.{Bool, false, cond}
+use mathlib.Core.Bool.{Bool, true, false, cond}
 use mathlib.Core.List.{List}
 use lib.Dec.{eqb}
 use lib.ListN.{length}
@@ -14,6 +14,7 @@ use Rattle.house.specs.Fields.{recordBytes}
 use Rattle.messages.specs.Bodies.{ready}
 use Rattle.touch.specs.Touch.{Frame, Touch, touchHeadOf, frame, body}
 use Rattle.touch.specs.declared.TouchHead.{TouchHead}
+use Rattle.contacts.specs.Table.{contacts}
 use Rattle.contacts.specs.Machine.{runBytes}
 use Rattle.runs.specs.Runs.{mostRecords}
 use Rattle.runs.specs.declared.Run.{Run}
@@ -65,13 +66,22 @@ pub record Tallies (r : Receiver) (n : ℕ) (l : List ℕ) (records : ℕ) (befo
       → recordBytes * records ≡ length (runBytes (rulesOf r) (machineOf r) (framesFor r fs))
   pub kept : (fs : List Frame) (rest : List ℕ) → readSeries (λ b. frame strict b .read) false n l ≡ got fs rest → after ≡ before
 
+-- whether there is room for their records, where the frames are all that a body of so many bytes holds
+pub record Rooms (r : Receiver) (n : ℕ) (l : List ℕ) (bodyBytes : ℕ) (roomy : Bool) (before after : List ℕ) : Type 0 where
+  pub short : roomy ≡ false → (fs : List Frame) (rest : List ℕ) → readSeries (λ b. frame strict b .read) false n l ≡ got fs rest
+      → length before < length (runBytes (rulesOf r) (machineOf r) (framesFor r fs))
+  pub enough : roomy ≡ true → (fs : List Frame) (rest : List ℕ) → readSeries (λ b. frame strict b .read) false n l ≡ got fs rest
+      → length (runBytes (rulesOf r) (machineOf r) (framesFor r fs)) ≤ recordBytes * (bodyBytes / 2 + contacts)
+      → length (runBytes (rulesOf r) (machineOf r) (framesFor r fs)) ≤ length before
+  pub kept : (fs : List Frame) (rest : List ℕ) → readSeries (λ b. frame strict b .read) false n l ≡ got fs rest → after ≡ before
+
 -- an effect, carried out
 pub record Carried (e : Effect) (before : List ℕ) (q : Received) (after : List ℕ) : Type 0 where
   pub answer : q ≡ record { receiver = e .receiver; answer = answerOf e }
   pub output : after ≡ laid before (e .bytes)
 
 -- the frames of a head at the front of l, carried out where there is room
-abbrev pub Carries : Receiver → TouchHead → List ℕ → List ℕ → Received → List ℕ → Type 0
-Carries r h l before q after =
-    (m : Touch) (rest : List ℕ) → h ≡ touchHeadOf m → readSeries (λ b. frame strict b .read) false (h .frames) l ≡ got (m .frames) rest
-    → length (touched r m .bytes) ≤ length before → Carried (touched r m) before q after
+pub record Carries (r : Receiver) (h : TouchHead) (l before : List ℕ) (q : Received) (after : List ℕ) : Type 0 where
+  pub whole : length (r .states) ≡ contacts
+  pub carried : (m : Touch) (rest : List ℕ) → h ≡ touchHeadOf m → readSeries (λ b. frame strict b .read) false (h .frames) l ≡ got (m .frames) rest
+      → length (touched r m .bytes) ≤ length before → Carried (touched r m) before q after

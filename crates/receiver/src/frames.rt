@@ -1,4 +1,4 @@
-// Touch messages: judged whole, run dry for the room that they take, and then run.
+// Touch messages: judged whole, run dry where their records might not fit, and then run.
 use crate::Answer;
 use crate::Received;
 use crate::Receiver;
@@ -11,7 +11,10 @@ ghost use mathlib.Core.Path.{_≡_};
 ghost use mathlib.Core.Bool.{cond, not};
 ghost use Rattle.contacts.specs.Ruling.{Counted};
 ghost use Rattle.receiver.specs.Receive.{mark};
-ghost use Rattle.receiver.specs.Events.{untimedBy, judgedBy, begunBy, answerTo, Gives, touchEffect, Tallies, Carries};
+ghost use Rattle.receiver.specs.Events.{untimedBy, judgedBy, begunBy, answerTo, Gives, touchEffect, Tallies, Rooms, Carries};
+
+// How many contacts there are: an id is a byte.
+const CONTACTS: usize = 256;
 
 // Whether the client asked for no time stamps: ready flag 2.
 fn is_untimed(flags: u32) -> bool
@@ -106,6 +109,18 @@ fn tally(receiver: Receiver, n: u8, frames: &[u8], output: &mut [u8]) -> usize
     run.records
 }
 
+// Whether the output has room for the records of the frames in a body of so many bytes; nothing is written. Two bytes of a body give
+// at most one record, beside a cancel for each contact: where the output has room for all these, the frames need not be counted.
+fn has_room(receiver: Receiver, n: u8, frames: &[u8], bytes: usize, output: &mut [u8]) -> bool
+    ensures { λ r. ⌜ Rooms receiver n (now (frames .entry)) bytes r (now (output .entry)) (now (output .exit)) ⌝ }
+{
+    if bytes / 2 + CONTACTS <= output.len() / house::RECORD_BYTES {
+        return true;
+    }
+    let records = tally(receiver, n, frames, output);
+    house::RECORD_BYTES * records <= output.len()
+}
+
 // The frames of a message carried out: their records, the receiver after them, and the answer.
 fn carry_out(receiver: Receiver, head: TouchHead, frames: &[u8], output: &mut [u8]) -> Received
     ensures { λ r. ⌜ Carries receiver head (now (frames .entry)) (now (output .entry)) r (now (output .exit)) ⌝ }
@@ -128,16 +143,21 @@ fn carry_out(receiver: Receiver, head: TouchHead, frames: &[u8], output: &mut [u
         &mut xs,
         &mut ys,
     );
-    let mut next = receiver;
-    next.begun = begun_after(receiver.begun, head.frames);
-    next.ignoring = ignoring_in(run.running);
-    next.states = states;
-    next.xs = xs;
-    next.ys = ys;
+    let begun = begun_after(receiver.begun, head.frames);
+    let ignoring = ignoring_in(run.running);
     let time = head.time;
     let answer = answer_to(run, time_for(time, untimed));
+    let settings = receiver.settings;
     Received {
-        receiver: next,
+        receiver: Receiver {
+            ready: receiver.ready,
+            begun: begun,
+            ignoring: ignoring,
+            settings: settings,
+            states: states,
+            xs: xs,
+            ys: ys,
+        },
         answer: answer,
     }
 }
@@ -152,9 +172,8 @@ pub(crate) fn receive_touch(receiver: Receiver, body: &[u8], output: &mut [u8]) 
         return refuse(receiver, checked.refusal());
     };
     let frames = &body[at..];
-    let records = tally(receiver, head.frames, frames, output);
-    if output.len() < house::RECORD_BYTES * records {
-        return refuse(receiver, paper::NO_ROOM);
+    if has_room(receiver, head.frames, frames, body.len(), output) {
+        return carry_out(receiver, head, frames, output);
     }
-    carry_out(receiver, head, frames, output)
+    refuse(receiver, paper::NO_ROOM)
 }

@@ -31,12 +31,13 @@ same-length c = search needs
 
 returns : tie.Need-returns
 returns c =
-    let t = c .before in
+    let w = c .before in
+    let t = w .before in
     let i = t .before .before in
     let b = i .before in
     let m = b .before .before .before in
-    let a = m .before .before .before .before .before .before .before in
-    carries _ _ _ (a .before .before .before .is-untimed .ensures) _ (a .before .active-in .ensures) _ _ _ _ _ (m .run-frames .ensures) _ _ _ _ (b .begun-after .ensures) (i .ignoring-in .ensures) (t .time-for .ensures) (c .answer-to .ensures)
+    let a = m .before .before .before .before .before .before .before .before in
+    carries _ _ _ (a .before .before .is-untimed .ensures) _ (a .active-in .ensures) _ _ _ _ _ (m .run-frames .ensures) _ _ _ _ (b .begun-after .ensures) (i .ignoring-in .ensures) (t .time-for .ensures) (w .answer-to .ensures)
 
 pub carry-out-spec : {M : Type 1} → statement M
 carry-out-spec =

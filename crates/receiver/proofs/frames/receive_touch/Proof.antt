@@ -47,37 +47,35 @@ part-frames-start c = omega (arith, body-is c .begins .inside)
 part-frames-end : tie.Need-part-frames-end
 part-frames-end c = search needs
 
-tally-requires : tie.Need-tally-requires
-tally-requires c κs = search needs
+has-room-requires : tie.Need-has-room-requires
+has-room-requires c κs = search needs
 
-mul-if1 : tie.Need-mul-if1
-mul-if1 c = search needs
-
-refuse-requires-2 : tie.Need-refuse-requires-2
-refuse-requires-2 c κs = search needs
+carry-out-requires : tie.Need-carry-out-requires
+carry-out-requires c κs = search needs
 
 same-length : tie.Need-same-length
 same-length c = search needs
 
 returns-2 : tie.Need-returns-2
 returns-2 c =
-    let t = c .before .before .before .before in
+    let o = c .before .before in
+    let i = o .before .before in
+    let t = i .before .before .before in
     let k = t .before .before .before in
-    touch-none _ _ _ (k .before .before .before .before .is-judged .ensures) _ _ _ _ (body-is k) _ _ (t .tally .ensures) (c .before .if1 .taken) (c .refuse2 .ensures)
+    touch-done _ _ _ (k .before .before .before .before .is-judged .ensures) _ _ _ _ (body-is k) _ _ (t .has-room .ensures) _ (i .if1 .taken) (o .carry-out .ensures)
 
-carry-out-requires : tie.Need-carry-out-requires
-carry-out-requires c κs = search needs
+refuse-requires-2 : tie.Need-refuse-requires-2
+refuse-requires-2 c κs = search needs
 
 same-length-2 : tie.Need-same-length-2
 same-length-2 c = search needs
 
 returns-3 : tie.Need-returns-3
 returns-3 c =
-    let o = c .before .before in
-    let e = o .before .before in
-    let t = e .before .before .before in
+    let i = c .before in
+    let t = i .before .before .before in
     let k = t .before .before .before in
-    touch-done _ _ _ (k .before .before .before .before .is-judged .ensures) _ _ _ _ (body-is k) _ _ (t .tally .ensures) _ (e .if1 .left) (o .carry-out .ensures)
+    touch-none _ _ _ (k .before .before .before .before .is-judged .ensures) _ _ _ _ (body-is k) _ _ (t .has-room .ensures) (i .if1 .left) (c .refuse2 .ensures)
 
 pub receive-touch-spec : {M : Type 1} → statement M
 receive-touch-spec =
@@ -93,11 +91,10 @@ receive-touch-spec =
     sub-frames
     part-frames-start
     part-frames-end
-    tally-requires
-    mul-if1
-    refuse-requires-2
+    has-room-requires
+    carry-out-requires
     same-length
     returns-2
-    carry-out-requires
+    refuse-requires-2
     same-length-2
     returns-3)

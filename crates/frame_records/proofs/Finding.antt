@@ -15,9 +15,10 @@ use Rattle.fields.specs.Integers.{strict}
 use Rattle.house.specs.declared.Head.{Head}
 use Rattle.house.specs.declared.Contact.{Contact}
 use Rattle.touch.specs.Touch.{Frame, headOf, contact, frameHead, frame}
-use Rattle.touch.proofs.Passes.{frameBy, next-got}
-use Rattle.frame_records.specs.Frames.{Found, nowhere, FindsFrame}
+use Rattle.touch.proofs.Passes.{frameBy, frame-got, next-got}
+use Rattle.frame_records.specs.Frames.{Found, nowhere, FindsFrame, FindsHeadAt, FindsHead}
 use Rattle.frame_records.specs.declared.FoundFrame.{FoundFrame}
+use Rattle.frame_records.specs.declared.FoundHead.{FoundHead}
 
 module _ (l : List ℕ) where
   -- no head
@@ -68,6 +69,30 @@ module _ (l : List ℕ) (at : ℕ) (r : FoundFrame) (here : FindsFrame (take (le
       let b = here .ends in
       record { begins = omega arith; ends = omega arith }
 
+  -- where the frame can be read, it is the one that was found
+  pub found-at : (f : Frame) (t : List ℕ) → frameBy false (drop at l) ≡ got f t → Found (drop at l) f t r
+  found-at f t e = let h : FindsFrame (drop at l) r = rw (tail l at) at here in rw e at (h .found)
+
+-- a frame whose head was found, and of whose contacts it is known where they end
+pub found-by-head : (l : List ℕ) (at : ℕ) (h : FoundHead) (end : ℕ) → FindsHead (take (length l - at) (drop at l)) h
+    → ((cs : List Contact) (t : List ℕ) → times (h .head .count) (contact strict) .read (drop (at + h .contacts) l) ≡ got cs t → drop end (drop (at + h .contacts) l) ≡ t)
+    → (f : Frame) (t : List ℕ) → frameBy false (drop at l) ≡ got f t
+    → Found (drop at l) f t (record { head = h .head; contacts = h .contacts; end = h .contacts + end })
+found-by-head l at h end here ends f t e =
+    let r = frame-got false (drop at l) f t e in
+    let x : FindsHead (drop at l) h = rw (tail l at) at here in
+    let y : FindsHeadAt (got (headOf f) (r .after)) (drop at l) h = rw (r .head) at (x .found) in
+    let a : drop (at + h .contacts) l ≡ r .after = sym (drop-drop (h .contacts) at l) ∙ y .1 in
+    let n : h .head .count ≡ length (f .contacts) = ap (λ (g : Head). g .count) (y .0) in
+    let cs : times (length (f .contacts)) (contact strict) .read (drop (at + h .contacts) l) ≡ got (f .contacts) t = rw a (r .contacts) in
+    record {
+      head = y .0;
+      headed = r .head ∙ ap (λ (u : List ℕ). got (headOf f) u) (sym (y .1));
+      contacts = rw (y .1) (r .contacts);
+      rest = sym (drop-drop end (h .contacts) (drop at l)) ∙ ap (drop end) (drop-drop (h .contacts) at l) ∙ ends (f .contacts) t (rw n cs);
+    }
+
+module _ (l : List ℕ) (at : ℕ) (r : FoundFrame) (here : (f : Frame) (t : List ℕ) → frameBy false (drop at l) ≡ got f t → Found (drop at l) f t r) where
   -- the frame that is next of those to come
   pub record Turn (t : List ℕ) (left : ℕ) (more : List Frame) : Type 0 where
     pub frame : Frame
@@ -81,8 +106,7 @@ module _ (l : List ℕ) (at : ℕ) (r : FoundFrame) (here : FindsFrame (take (le
   pub turn : (t : List ℕ) (left : ℕ) (more : List Frame) → 0 < left → readSeries frameBy false left (drop at l) ≡ got more t → Turn t left more
   turn t left more h e =
       let m = next-got (frame strict) false left (drop at l) more t h e in
-      let f : FindsFrame (drop at l) r = rw (tail l at) at here in
-      let x : Found (drop at l) (m .head) (m .after) r = rw (m .one) at (f .found) in
+      let x = here (m .head) (m .after) (m .one) in
       let y : m .after ≡ drop (at + r .end) l = sym (x .rest) ∙ drop-drop (r .end) at l in
       record {
         frame = m .head;

@@ -12,9 +12,10 @@ use Rattle.formats.specs.Format.{Got, got, bad, times}
 use Rattle.fields.specs.Integers.{strict}
 use Rattle.house.specs.declared.Head.{Head}
 use Rattle.house.specs.declared.Contact.{Contact}
-use Rattle.touch.specs.Touch.{Frame, headOf, contact, frame}
-use Rattle.frame_records.specs.Frames.{WritesFrame, Finds, FindsFrame}
+use Rattle.touch.specs.Touch.{Frame, headOf, contact, frameHead, frame}
+use Rattle.frame_records.specs.Frames.{WritesFrame, Finds, FindsFrame, FindsHeadAt, FindsHead}
 use Rattle.frame_records.specs.declared.FoundFrame.{FoundFrame}
+use Rattle.frame_records.specs.declared.FoundHead.{FoundHead}
 
 pub write-frame-unique : (h : Head) (l : List ℕ) (cs : List Contact) (t : List ℕ) → times (h .count) (contact strict) .read l ≡ got cs t
     → (v w : Written) (before after after′ : List ℕ) → WritesFrame h l v before after → WritesFrame h l w before after′ → (v ≡ w) × (after ≡ after′)
@@ -37,3 +38,12 @@ find-frame-unique l r s p q = go (frame strict false .read l) (p .found) (q .fou
         let m : r .contacts ≡ s .contacts = place l (r .contacts) (s .contacts) (p .begins) (q .begins) (cc) in
         let n : r .end ≡ s .end = place l (r .end) (s .end) (p .ends) (q .ends) (a .rest ∙ sym (b .rest)) in
         λ i. record { head = h i; contacts = m i; end = n i }
+
+pub find-head-unique : (l : List ℕ) (r s : FoundHead) → FindsHead l r → FindsHead l s → r ≡ s
+find-head-unique l r s p q = go (frameHead strict false .read l) (p .found) (q .found)
+  where
+    go : (x : Got Head) → FindsHeadAt x l r → FindsHeadAt x l s → r ≡ s
+    go (bad e) a b = a ∙ sym b
+    go (got h t) a b =
+        let m : r .contacts ≡ s .contacts = place l (r .contacts) (s .contacts) (p .begins) (q .begins) (a .1 ∙ sym (b .1)) in
+        λ i. record { head = (a .0 ∙ sym (b .0)) i; contacts = m i }

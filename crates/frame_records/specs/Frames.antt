@@ -13,6 +13,7 @@ use Rattle.house.specs.declared.Head.{Head}
 use Rattle.house.specs.declared.Contact.{Contact}
 use Rattle.touch.specs.Touch.{Frame, headOf, contact, frameHead, frame, contactsBytes}
 use Rattle.frame_records.specs.declared.FoundFrame.{FoundFrame}
+use Rattle.frame_records.specs.declared.FoundHead.{FoundHead}
 
 -- how many records frames have: each a head and its contacts
 unfoldable pub recordsIn : List Frame → ℕ
@@ -48,3 +49,12 @@ pub record FindsFrame (l : List ℕ) (r : FoundFrame) : Type 0 where
   pub found : Finds (frame strict false .read l) l r
   pub begins : r .contacts ≤ length l
   pub ends : r .end ≤ length l
+
+-- THE CONTRACT OF FINDING A HEAD at the front of l
+abbrev pub FindsHeadAt : Got Head → List ℕ → FoundHead → Type 0
+FindsHeadAt (got h t) l r = (r .head ≡ h) × (drop (r .contacts) l ≡ t)
+FindsHeadAt (bad e) l r = r ≡ record { head = nowhere .head; contacts = 0 }
+
+pub record FindsHead (l : List ℕ) (r : FoundHead) : Type 0 where
+  pub found : FindsHeadAt (frameHead strict false .read l) l r
+  pub begins : r .contacts ≤ length l

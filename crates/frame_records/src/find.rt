@@ -1,11 +1,12 @@
 // Where a frame stands.
 use crate::FoundFrame;
+use crate::FoundHead;
 use house::Head;
 use paper::Microseconds;
 use touch::End;
 use touch::ReadHead;
 ghost use mathlib.Core.Path.{_≡_};
-ghost use Rattle.frame_records.specs.Frames.{nowhere, FindsFrame};
+ghost use Rattle.frame_records.specs.Frames.{nowhere, FindsFrame, FindsHead};
 
 // The answer where no frame can be read.
 fn none() -> FoundFrame
@@ -38,5 +39,24 @@ pub fn find_frame(rest: &[u8]) -> FoundFrame
         head: head,
         contacts: at,
         end: at + n,
+    }
+}
+
+// The head of the frame at the front of what is lent, whose offset is not judged, and where its contacts begin.
+pub fn find_head(rest: &[u8]) -> FoundHead
+    ensures { λ r. ⌜ FindsHead (now (rest .entry)) r ⌝ }
+{
+    let got = touch::read_frame_head(rest, false);
+    let ReadHead::Value(head, at) = got else {
+        let nowhere = none();
+        let head = nowhere.head;
+        return FoundHead {
+            head: head,
+            contacts: 0,
+        };
+    };
+    FoundHead {
+        head: head,
+        contacts: at,
     }
 }

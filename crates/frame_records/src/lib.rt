@@ -3,6 +3,7 @@ mod find;
 mod write;
 
 pub use find::find_frame;
+pub use find::find_head;
 use house::Head;
 pub use write::write_frame;
 
@@ -11,4 +12,10 @@ pub struct FoundFrame {
     pub head: Head,
     pub contacts: usize,
     pub end: usize,
+}
+
+// The head of a frame in a message, and where its contacts begin.
+pub struct FoundHead {
+    pub head: Head,
+    pub contacts: usize,
 }

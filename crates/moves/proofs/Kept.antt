@@ -93,7 +93,7 @@ module _ (rules : Rules) (P : Table → Type 0) (keeps : (t : Table) (c : Contac
       go (got c m) r = r (moved rules t c) m (keeps t c h)
       go (bad e) r = h
 
-module _ (n : ℕ) (l : List ℕ) (t u : Table) (a : Applies n l t u) where
+module _ (n : ℕ) (l : List ℕ) (end : ℕ) (t u : Table) (a : Applies n l end t u) where
   pub applies-whole : Whole t → Whole u
   applies-whole w = rw (a .table 0) (read-keeps (rulesOf 0) Whole (moved-whole (rulesOf 0)) n t l w)
 

@@ -1,13 +1,14 @@
 -- What a frame's contacts leave of the table, as a loop reads them, and that it is what the frame leaves where they can all be read.
 -- Assumes nothing.
 use Prim.Native.Nat.{ℕ, zero, suc, _-_, _≤_, _<_}
-use mathlib.Core.Path.{_≡_, refl, ap, _∙_}
+use mathlib.Core.Path.{_≡_, refl, sym, ap, _∙_}
 use mathlib.Core.List.{List, [], _∷_}
 use native.Mathlib.Numerals.{sub-one}
 use native.Mathlib.Omega.{arith}
 use borrow.Author.Tests.{eq-eqb, ne-eqb}
-use lib.ListN.{drop}
+use lib.ListN.{length, drop}
 use Rattle.formats.specs.Format.{Got, got, bad, andThen, readSeries}
+use Rattle.formats.specs.Answer.{skipped}
 use Rattle.formats.proofs.Steps.{Stepped}
 use Rattle.fields.specs.Integers.{strict}
 use Rattle.states.specs.Table.{out}
@@ -16,7 +17,7 @@ use Rattle.touch.specs.Touch.{contact}
 use Rattle.contacts.specs.Table.{Table, withContact, origin}
 use Rattle.contacts.specs.Conforms.{Rules, nextOf, moved, after}
 use Rattle.contacts.specs.Ruling.{contactsOf, rulesOf}
-use Rattle.moves.specs.Moves.{onRead, afterRead, Moves, Applies}
+use Rattle.moves.specs.Moves.{onRead, afterRead, Moves, EndsAt, Ends, Applies}
 
 -- ---- one contact
 
@@ -80,5 +81,26 @@ module _ (rules : Rules) where
   read-all zero t l cs rest e = ap (after rules t) (same [] cs l rest e)
   read-all (suc n) t l cs rest e = one-more n (read-all n) t l cs rest e
 
-pub applies-after : (most n : ℕ) (l : List ℕ) (t u : Table) (cs : List Contact) (rest : List ℕ) → Applies n l t u → contactsOf n l ≡ got cs rest → u ≡ after (rulesOf most) t cs
-applies-after most n l t u cs rest h e = h .table most ∙ read-all (rulesOf most) n t l cs rest e
+pub applies-after : (most n : ℕ) (l : List ℕ) (end : ℕ) (t u : Table) (cs : List Contact) (rest : List ℕ) → Applies n l end t u → contactsOf n l ≡ got cs rest
+    → u ≡ after (rulesOf most) t cs
+applies-after most n l end t u cs rest h e = h .table most ∙ read-all (rulesOf most) n t l cs rest e
+
+-- ---- where they end
+
+module _ (n : ℕ) (l : List ℕ) where
+  pub ends-got : (end : ℕ) → got tt (drop end l) ≡ skipped (contactsOf n l) → end ≤ length l → Ends n l end
+  ends-got end e h = record { ends = go (contactsOf n l) e; inside = h }
+    where
+      go : (x : Got (List Contact)) → got tt (drop end l) ≡ skipped x → EndsAt x l end
+      go (got cs t) e = cc
+      go (bad x) e = never x tt (drop end l) (sym e)
+
+  pub ends-bad : (e : ℕ) → bad e ≡ skipped (contactsOf n l) → Ends n l 0
+  ends-bad e h = record { ends = go (contactsOf n l) h; inside = omega arith }
+    where
+      go : (x : Got (List Contact)) → bad e ≡ skipped x → EndsAt x l 0
+      go (got cs t) h = never e tt t h
+      go (bad x) h = refl
+
+pub ends-read : (n : ℕ) (l : List ℕ) (end : ℕ) (cs : List Contact) (t : List ℕ) → Ends n l end → contactsOf n l ≡ got cs t → drop end l ≡ t
+ends-read n l end cs t h e = rw e at (h .ends)

@@ -1,17 +1,32 @@
 -- Two outcomes that a contract of this crate allows are equal, in the answer, in the output and in the table.
 -- Assumes nothing.
 use Prim.Native.Nat.{ℕ}
-use mathlib.Core.Path.{_≡_, sym, _∙_}
+use mathlib.Core.Path.{_≡_, sym, ap, _∙_}
 use mathlib.Core.List.{List}
+use native.Mathlib.Omega.{arith}
+use lib.ListN.{length, length-drop}
 use Rattle.slices.specs.Writing.{bytes, Writes}
 use Rattle.slices.specs.declared.Written.{Written}
 use Rattle.slices.proofs.Laws.{writes-unique}
+use Rattle.formats.specs.Format.{Got, got, bad}
+use Rattle.house.specs.declared.Contact.{Contact}
+use Rattle.contacts.specs.Ruling.{contactsOf}
 use Rattle.contacts.specs.Table.{Table, resting}
 use Rattle.contacts.specs.Machine.{cancels, dismissBytes}
-use Rattle.moves.specs.Moves.{Applies, Dismisses}
+use Rattle.moves.specs.Moves.{Moves, EndsAt, Ends, Applies, Dismisses}
 
-pub apply-unique : (n : ℕ) (l : List ℕ) (t u u′ : Table) → Applies n l t u → Applies n l t u′ → u ≡ u′
-apply-unique n l t u u′ h k = h .table 0 ∙ sym (k .table 0)
+pub move-contact-unique : (c : Contact) (t u u′ : Table) → Moves c t u → Moves c t u′ → u ≡ u′
+move-contact-unique c t u u′ h k = h .table 0 ∙ sym (k .table 0)
+
+pub ends-unique : (n : ℕ) (l : List ℕ) (m m′ : ℕ) → Ends n l m → Ends n l m′ → m ≡ m′
+ends-unique n l m m′ h k = go (contactsOf n l) (h .ends) (k .ends)
+  where
+    go : (x : Got (List Contact)) → EndsAt x l m → EndsAt x l m′ → m ≡ m′
+    go (bad e) p q = p ∙ sym q
+    go (got cs t) p q = omega (arith, h .inside, k .inside, length-drop m l, length-drop m′ l, ap length (p ∙ sym q))
+
+pub apply-unique : (n : ℕ) (l : List ℕ) (m m′ : ℕ) (t u u′ : Table) → Applies n l m t u → Applies n l m′ t u′ → (m ≡ m′) × (u ≡ u′)
+apply-unique n l m m′ t u u′ h k = (ends-unique n l m m′ (h .passed) (k .passed), h .table 0 ∙ sym (k .table 0))
 
 pub rest-all-unique : (u u′ : Table) → u ≡ resting → u′ ≡ resting → u ≡ u′
 rest-all-unique u u′ h k = h ∙ sym k

@@ -1,10 +1,10 @@
 -- What the calls leave of a table of contacts: a frame as it is read from a message, and a dismissal by the room that it was lent.
-use Prim.Native.Nat.{ℕ, zero, suc}
+use Prim.Native.Nat.{ℕ, zero, suc, _≤_}
 use mathlib.Core.Path.{_≡_}
 use mathlib.Core.Bool.{cond}
 use mathlib.Core.List.{List}
 use lib.Dec.{leb}
-use lib.ListN.{length}
+use lib.ListN.{length, drop}
 use Rattle.slices.specs.Writing.{bytes, Writes}
 use Rattle.slices.specs.declared.Written.{Written}
 use Rattle.formats.specs.Format.{Got, got, bad}
@@ -14,7 +14,7 @@ use Rattle.touch.specs.Touch.{contact}
 use Rattle.contacts.specs.Table.{Table}
 use Rattle.contacts.specs.Conforms.{Rules, moved}
 use Rattle.contacts.specs.Machine.{dismissTable, dismissBytes}
-use Rattle.contacts.specs.Ruling.{rulesOf}
+use Rattle.contacts.specs.Ruling.{contactsOf, rulesOf}
 
 -- what a value and the bytes after it lead to, and z where there is none
 abbrev pub onRead : {A B : Type 0} → B → (A → List ℕ → B) → Got A → B
@@ -30,9 +30,19 @@ afterRead rules (suc n) t l = onRead t (λ c rest. afterRead rules n (moved rule
 pub record Moves (c : Contact) (before after : Table) : Type 0 where
   pub table : (most : ℕ) → after ≡ moved (rulesOf most) before c
 
+-- where contacts that are read as x end in l, and 0 where they cannot be read
+abbrev pub EndsAt : Got (List Contact) → List ℕ → ℕ → Type 0
+EndsAt (got cs t) l end = drop end l ≡ t
+EndsAt (bad e) l end = end ≡ 0
+
+pub record Ends (n : ℕ) (l : List ℕ) (end : ℕ) : Type 0 where
+  pub ends : EndsAt (contactsOf n l) l end
+  pub inside : end ≤ length l
+
 -- the n contacts at the front of l stored
-pub record Applies (n : ℕ) (l : List ℕ) (before after : Table) : Type 0 where
+pub record Applies (n : ℕ) (l : List ℕ) (end : ℕ) (before after : Table) : Type 0 where
   pub table : (most : ℕ) → after ≡ afterRead (rulesOf most) n before l
+  pub passed : Ends n l end
 
 -- a dismissal that finds too little room leaves the table as it was
 unfoldable pub dismissedIn : ℕ → Table → ℕ → Table

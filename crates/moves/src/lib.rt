@@ -5,4 +5,5 @@ mod table;
 pub use records::dismiss;
 pub use records::write_cancels;
 pub use table::apply;
+pub use table::move_contact;
 pub use table::rest_all;

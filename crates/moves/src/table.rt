@@ -27,7 +27,12 @@ pub(crate) fn store(
 }
 
 // A contact of a frame goes to its next state; out of range it has position 0, 0.
-fn move_contact(contact: Contact, states: &mut [u8; 256], xs: &mut [i32; 256], ys: &mut [i32; 256])
+pub fn move_contact(
+    contact: Contact,
+    states: &mut [u8; 256],
+    xs: &mut [i32; 256],
+    ys: &mut [i32; 256],
+)
     ensures { λ _. ⌜ Moves contact (tableOf (now (states .entry)) (now (xs .entry)) (now (ys .entry))) (tableOf (now (states .exit)) (now (xs .exit)) (now (ys .exit))) ⌝ }
 {
     let i = contact.id as usize;
@@ -40,27 +45,29 @@ fn move_contact(contact: Contact, states: &mut [u8; 256], xs: &mut [i32; 256], y
     store(contact.id, state, place, states, xs, ys);
 }
 
-// The n contacts of a frame, from the first one's first byte, each stored with its next state.
+// The n contacts of a frame, from the first one's first byte, each stored with its next state. Answers where they end, 0 where they
+// cannot all be read.
 pub fn apply(
     rest: &[u8],
     n: usize,
     states: &mut [u8; 256],
     xs: &mut [i32; 256],
     ys: &mut [i32; 256],
-)
-    ensures { λ _. ⌜ Applies n (now (rest .entry)) (tableOf (now (states .entry)) (now (xs .entry)) (now (ys .entry))) (tableOf (now (states .exit)) (now (xs .exit)) (now (ys .exit))) ⌝ }
+) -> usize
+    ensures { λ r. ⌜ Applies n (now (rest .entry)) r (tableOf (now (states .entry)) (now (xs .entry)) (now (ys .entry))) (tableOf (now (states .exit)) (now (xs .exit)) (now (ys .exit))) ⌝ }
 {
     let mut at: usize = 0;
     let mut left = n;
     while 0 < left {
         let got = touch::read_contact(&rest[at..]);
         let ReadContact::Value(contact, k) = got else {
-            return;
+            return 0;
         };
         move_contact(contact, states, xs, ys);
         at += k;
         left -= 1;
     }
+    at
 }
 
 // Every contact goes out of range.

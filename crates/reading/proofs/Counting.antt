@@ -13,7 +13,7 @@ use Rattle.house.specs.declared.Head.{Head}
 use Rattle.frame_records.specs.Frames.{recordsIn, FindsFrame}
 use Rattle.frame_records.specs.declared.FoundFrame.{FoundFrame}
 use Rattle.frame_records.proofs.Laws.{records-none, records-cons}
-use Rattle.frame_records.proofs.Finding.{turn}
+use Rattle.frame_records.proofs.Finding.{found-at, turn}
 use Rattle.reading.specs.Passes.{frames}
 
 -- l is read; of the whole, with t behind it, `left` frames are to come from `at` on
@@ -30,7 +30,7 @@ module _ (l : List ℕ) (whole : List Frame) (t : List ℕ) where
     pub counting-next : (r : FoundFrame) → 0 < left → FindsFrame (take (length l - at) (drop at l)) r
         → Counting l whole t (records + (r .head .count + 1)) (at + r .end) (left - 1)
     counting-next r k here =
-        let x = turn l at r here t left (h .more) k (h .read) in
+        let x = turn l at r (found-at l at r here) t left (h .more) k (h .read) in
         let n : r .head .count ≡ length (x .frame .contacts) = ap (λ (g : Head). g .count) (x .head) in
         let e : recordsIn (h .more) ≡ suc (length (x .frame .contacts)) + recordsIn (x .others) = ap recordsIn (x .all) ∙ records-cons (x .frame) (x .others) in
         record { more = x .others; read = x .after; same = omega (arith, h .same) }

@@ -16,7 +16,7 @@ use Rattle.touch.specs.Touch.{Frame, frame, contactsBytes, frameBytes, framesBy
 use Rattle.frame_records.specs.Frames.{WritesFrame, FindsFrame}
 use Rattle.frame_records.specs.declared.FoundFrame.{FoundFrame}
 use Rattle.frame_records.proofs.Laws.{frame-is, frames-cons, frames-none}
-use Rattle.frame_records.proofs.Finding.{turn}
+use Rattle.frame_records.proofs.Finding.{found-at, turn}
 use Rattle.frame_records.proofs.Passes.{Ahead, ahead-first, ahead-room, ahead-next, ahead-done}
 use Rattle.reading.specs.Passes.{frames, Roomy, WritesFrames}
 
@@ -37,7 +37,7 @@ module _ (n : ℕ) (l d : List ℕ) where
         → Writing n l d (putMid pos (length out - pos) out o) (pos + w .bytes) (at + r .end) (left - 1)
     writing-next r w o k here written =
         let a = h .ahead in
-        let x = turn l at r here [] left (a .more) k (a .read) in
+        let x = turn l at r (found-at l at r here) [] left (a .more) k (a .read) in
         let f = x .frame in
         let next = at + r .end in
         let y : Writes (bytes (headBytes (r .head) ++ contactsBytes (f .contacts))) w (midOf pos (length out - pos) out) o = written (f .contacts) (drop next l) (rw (tail l (at + r .contacts)) (x .contacts)) in

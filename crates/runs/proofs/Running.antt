@@ -17,14 +17,18 @@ use Rattle.house.specs.declared.Contact.{Contact}
 use Rattle.touch.specs.Touch.{Frame, headOf}
 use Rattle.touch.proofs.Passes.{frameBy}
 use Rattle.frame_records.specs.declared.FoundFrame.{FoundFrame}
-use Rattle.frame_records.specs.Frames.{FindsFrame}
-use Rattle.frame_records.proofs.Finding.{Turn}
+use Rattle.frame_records.specs.declared.FoundHead.{FoundHead}
+use Rattle.frame_records.specs.Frames.{FindsHead}
+use Rattle.frame_records.proofs.Finding.{Turn, found-by-head}
 use Rattle.frame_records.proofs.Finding as finding
 use Rattle.contacts.specs.Table.{Table}
 use Rattle.contacts.specs.Conforms.{Rules}
 use Rattle.contacts.specs.Machine.{Machine, Counts, none, plus, countOf, verdict, stepMachine, stepBytes, runMachine, runBytes, runCounts}
 use Rattle.contacts.specs.Ruling.{contactsOf, rulesOf, Counted}
+use Rattle.moves.specs.Moves.{Ends}
+use Rattle.moves.proofs.Moving.{ends-read}
 use Rattle.runs.specs.declared.Run.{Run}
+use Rattle.runs.specs.declared.Stepped.{Stepped}
 use Rattle.runs.specs.Runs.{withoutOffset, timedHead, timedFrames, machineOf, countsOf, started, Turned, Steps, Passes, Ran}
 
 -- ---- frames as they are written, one by one
@@ -157,14 +161,26 @@ module _ (most : ℕ) (untimed wet : Bool) (l : List ℕ) (fs : List Frame) (end
       none-left more e = cc
 
   -- a frame's turn
-  module _ (m : Machine) (run r : Run) (t v : Table) (out : List ℕ) (pos at left : ℕ) (u : Underway (rulesOf most) untimed wet l m fs end out₀ run t out pos at left) (h : 0 < left)
-      (found : FoundFrame) (here : FindsFrame (take (length l - at) (drop at l)) found) (head : Head) (eh : head ≡ timedHead untimed (found .head)) (part : List ℕ)
+  module _ (m : Machine) (run : Run) (r : Stepped) (t v : Table) (out : List ℕ) (pos at left : ℕ) (u : Underway (rulesOf most) untimed wet l m fs end out₀ run t out pos at left) (h : 0 < left)
+      (found : FoundHead) (here : FindsHead (take (length l - at) (drop at l)) found) (head : Head) (eh : head ≡ timedHead untimed (found .head)) (part : List ℕ)
       (s : Steps head (take (length l - (at + found .contacts)) (drop (at + found .contacts) l)) wet most run r t v (midOf pos (length out - pos) out) part) where
     abbrev out′ : List ℕ
     out′ = putMid pos (length out - pos) out part
 
-    next : Turn l at found here end left (u .ahead)
-    next = finding.turn l at found here end left (u .ahead) h (u .read)
+    -- the head, where its contacts begin, and where they end
+    abbrev whole : FoundFrame
+    whole = record { head = found .head; contacts = found .contacts; end = found .contacts + r .end }
+
+    same-count : head .count ≡ found .head .count
+    same-count = ap (λ (g : Head). g .count) eh ∙ timed-count untimed (found .head)
+
+    past : (cs : List Contact) (t : List ℕ) → contactsOf (found .head .count) (drop (at + found .contacts) l) ≡ got cs t → drop (r .end) (drop (at + found .contacts) l) ≡ t
+    past cs t e =
+        let p : Ends (found .head .count) (drop (at + found .contacts) l) (r .end) = rw (same-count, tail l (at + found .contacts)) at (s .passed) in
+        ends-read (found .head .count) (drop (at + found .contacts) l) (r .end) cs t p e
+
+    next : Turn l at whole (found-by-head l at found (r .end) here past) end left (u .ahead)
+    next = finding.turn l at whole (found-by-head l at found (r .end) here past) end left (u .ahead) h (u .read)
 
     abbrev now : Frame
     now = timedFrame untimed (next .frame)
@@ -172,28 +188,27 @@ module _ (most : ℕ) (untimed wet : Bool) (l : List ℕ) (fs : List Frame) (end
     abbrev later : List Frame
     later = timedFrames untimed (next .others)
 
-    turned : Turned (rulesOf most) now wet run r t v (midOf pos (length out - pos) out) part
+    turned : Turned (rulesOf most) now wet run (r .run) t v (midOf pos (length out - pos) out) part
     turned =
-        let n : head .count ≡ found .head .count = ap (λ (g : Head). g .count) eh ∙ timed-count untimed (found .head) in
         let a : head ≡ headOf now = eh ∙ ap (timedHead untimed) (next .head) ∙ timed-head untimed (next .frame) in
-        s .turned now (drop (at + found .end) l) a (read-same _ _ _ _ _ _ _ n (tail l (at + found .contacts)) (timed-contacts untimed (next .frame)) (next .contacts)) (u .active)
+        s .turned now (drop (at + (found .contacts + r .end)) l) a (read-same _ _ _ _ _ _ _ same-count (tail l (at + found .contacts)) (timed-contacts untimed (next .frame)) (next .contacts)) (u .active)
 
     all : timedFrames untimed (u .ahead) ≡ now ∷ later
     all = ap (timedFrames untimed) (next .all) ∙ timed-cons untimed (next .frame) (next .others)
 
-    bytes : runBytes (rulesOf most) (machineOf run t) (timedFrames untimed (u .ahead)) ≡ stepBytes (rulesOf most) (machineOf run t) now ++ runBytes (rulesOf most) (machineOf r v) later
+    bytes : runBytes (rulesOf most) (machineOf run t) (timedFrames untimed (u .ahead)) ≡ stepBytes (rulesOf most) (machineOf run t) now ++ runBytes (rulesOf most) (machineOf (r .run) v) later
     bytes = rw (all, turned .machine) (bytes-cons (rulesOf most) (machineOf run t) now later)
 
-    long : 21 * run .records + length (stepBytes (rulesOf most) (machineOf run t) now) + length (runBytes (rulesOf most) (machineOf r v) later) ≡ length (runBytes (rulesOf most) m (timedFrames untimed fs))
+    long : 21 * run .records + length (stepBytes (rulesOf most) (machineOf run t) now) + length (runBytes (rulesOf most) (machineOf (r .run) v) later) ≡ length (runBytes (rulesOf most) m (timedFrames untimed fs))
     long = let e = rw (bytes, length-append) at (u .records) in omega (arith, e)
 
-    pub underway-next : (pos′ : ℕ) → length out ≡ length out₀ → Passes pos (r .records - run .records) (length out′) pos′
+    pub underway-next : (pos′ : ℕ) → length out ≡ length out₀ → Passes pos (r .run .records - run .records) (length out′) pos′
         → length out′ ≡ length out
-        → Underway (rulesOf most) untimed wet l m fs end out₀ r v out′ pos′ (at + found .end) (left - 1)
+        → Underway (rulesOf most) untimed wet l m fs end out₀ (r .run) v out′ pos′ (at + found .contacts + r .end) (left - 1)
     underway-next pos′ lo p lo′ =
         record {
           ahead = next .others;
-          read = next .after;
+          read = rw (add-assoc at (found .contacts) (r .end)) (next .after);
           active = turned .active;
           machine = rw (turned .machine) (sym (machine-cons (rulesOf most) (machineOf run t) now later) ∙ sym (ap (runMachine (rulesOf most) (machineOf run t)) all) ∙ u .machine);
           counts =
@@ -206,10 +221,10 @@ module _ (most : ℕ) (untimed wet : Bool) (l : List ℕ) (fs : List Frame) (end
       where
         go : pos ≡ 21 * run .records → laidAt out pos (runBytes (rulesOf most) (machineOf run t) (timedFrames untimed (u .ahead))) ≡ laid out₀ (runBytes (rulesOf most) m (timedFrames untimed fs))
             → wet ≡ true → length (runBytes (rulesOf most) m (timedFrames untimed fs)) ≤ length out₀
-            → (pos′ ≡ 21 * r .records) × (laidAt out′ pos′ (runBytes (rulesOf most) (machineOf r v) later) ≡ laid out₀ (runBytes (rulesOf most) m (timedFrames untimed fs)))
+            → (pos′ ≡ 21 * r .run .records) × (laidAt out′ pos′ (runBytes (rulesOf most) (machineOf (r .run) v) later) ≡ laid out₀ (runBytes (rulesOf most) m (timedFrames untimed fs)))
         go ep el w room =
             let B = stepBytes (rulesOf most) (machineOf run t) now in
-            let T = runBytes (rulesOf most) (machineOf r v) later in
+            let T = runBytes (rulesOf most) (machineOf (r .run) v) later in
             let lg = long in
             let rc = turned .records in
             let mr = s .more in

@@ -1,13 +1,13 @@
 -- What becomes of one frame, by its ruling.
 -- Assumes nothing.
-use Prim.Native.Nat.{ℕ, _+_}
+use Prim.Native.Nat.{ℕ, _+_, _<_}
 use mathlib.Core.Path.{_≡_, refl, sym, ap}
 use mathlib.Core.Bool.{Bool, true, false}
 use mathlib.Core.List.{List, [], _∷_}
 use native.Mathlib.Omega.{arith}
 use native.Mathlib.Nat.{add-zero}
 use lib.ListN.{length, length-set}
-use Rattle.slices.specs.Writing.{bytes, Writes}
+use Rattle.slices.specs.Writing.{laid, bytes, Writes}
 use Rattle.slices.specs.declared.Written.{Written}
 use Rattle.slices.proofs.Laws.{writes-done}
 use Rattle.formats.specs.Format.{got}
@@ -24,8 +24,10 @@ use Rattle.contacts.specs.declared.Ruling.{Ruling}
 use Rattle.contacts.specs.declared.Ruling.the-variants as Ruling
 use Rattle.contacts.proofs.Machine.{injected-machine, injected-bytes, ignored-machine, ignored-bytes, cancelled-machine, cancelled-bytes, cancels-length}
 use Rattle.contacts.proofs.Judgement.{ruled-injected, ruled-ignored, ruled-cancelled, counted-resting}
+use Rattle.moves.specs.Moves.{Ends}
 use Rattle.moves.proofs.Moving.{applies-after}
 use Rattle.runs.specs.declared.Run.{Run}
+use Rattle.runs.specs.declared.Stepped.{Stepped}
 use Rattle.runs.specs.Runs.{Lays, machineOf, ignoredRun, Injects, Cancels, Turned, Steps}
 
 -- ---- what is laid
@@ -36,6 +38,13 @@ module _ (wet : Bool) (s before : List ℕ) where
 
   pub lays-off : wet ≡ false → Lays wet s before before
   lays-off e = record { kept = λ n. refl; written = λ y room. never y e }
+
+-- where there is room for all of it, or for too little of it
+pub lays-done : (wet : Bool) (s before after : List ℕ) → wet ≡ true → after ≡ laid before s → Lays wet s before after
+lays-done wet s before after e h = record { kept = λ n. never e n; written = λ y room. h }
+
+pub lays-short : (wet : Bool) (s before : List ℕ) → wet ≡ true → length before < length s → Lays wet s before before
+lays-short wet s before e h = record { kept = λ n. refl; written = λ y room. absurd (omega arith) }
 
 lays-none : (wet : Bool) (d : List ℕ) → Lays wet [] d d
 lays-none wet d = record { kept = λ n. refl; written = λ y room. refl }
@@ -62,11 +71,11 @@ module _ (head : Head) (l : List ℕ) (wet : Bool) (most : ℕ) (run : Run) (t :
     read-as : (r : Ruling) → ruled r → r ≡ rulingOf (rulesOf most) (machineOf run t) (f .contacts)
     read-as r q = rw e at (q a)
 
-    turned-injected : (k : ℕ) (r : Run) (u : Table) (after : List ℕ) → ruled (Ruling.Injected k) → Injects head k l wet run r t u before after
-        → Turned (rulesOf most) f wet run r t u before after
+    turned-injected : (k : ℕ) (r : Stepped) (u : Table) (after : List ℕ) → ruled (Ruling.Injected k) → Injects head k l wet run r t u before after
+        → Turned (rulesOf most) f wet run (r .run) t u before after
     turned-injected k r u after q i =
         let v = ruled-injected (rulesOf most) (machineOf run t) (f .contacts) k (read-as (Ruling.Injected k) q) in
-        let x = applies-after most (head .count) l t u (f .contacts) rest (i .table) e in
+        let x = applies-after most (head .count) l (r .end) t u (f .contacts) rest (i .carried .table) e in
         let n : head .count ≡ length (f .contacts) = ap (λ (g : Head). g .count) h in
         let b = injected-bytes (rulesOf most) (machineOf run t) f (v .verdict) in
         rw (i .answer) (record {
@@ -74,7 +83,7 @@ module _ (head : Head) (l : List ℕ) (wet : Bool) (most : ℕ) (run : Run) (t :
           active = rw x (record { all = after-long (rulesOf most) t (f .contacts) (a .all); same = v .active });
           counts = counted-as (rulesOf most) (machineOf run t) (f .contacts) _ _ injected (v .verdict) (λ j. record { injected = run .injected + 1; ignored = sym (add-zero (run .ignored)) j; cancelled = sym (add-zero (run .cancelled)) j });
           records = rw (b, length-frame f) (omega arith);
-          output = rw (b, frame-is f, ← h) (i .output (f .contacts) rest e);
+          output = rw (b, frame-is f, ← h) (i .carried .output (f .contacts) rest e);
         })
 
     turned-ignored : (r : Run) → ruled Ruling.Ignored → r ≡ ignoredRun run → Turned (rulesOf most) f wet run r t t before before
@@ -105,7 +114,7 @@ module _ (head : Head) (l : List ℕ) (wet : Bool) (most : ℕ) (run : Run) (t :
 
   -- ---- the contract, of each
 
-  pub steps-injected : (k : ℕ) (r : Run) (u : Table) (after : List ℕ) → ruled (Ruling.Injected k) → Injects head k l wet run r t u before after
+  pub steps-injected : (k : ℕ) (r : Stepped) (u : Table) (after : List ℕ) → ruled (Ruling.Injected k) → Injects head k l wet run r t u before after
       → Steps head l wet most run r t u before after
   steps-injected k r u after q i =
       let x = i .answer in
@@ -114,26 +123,30 @@ module _ (head : Head) (l : List ℕ) (wet : Bool) (most : ℕ) (run : Run) (t :
         frames = rw x (omega arith);
         more = rw x (omega arith);
         small = rw x (omega arith);
+        passed = i .carried .table .passed;
         turned = λ f rest h e a. turned-injected f rest h e a k r u after q i;
       }
 
-  pub steps-ignored : (r : Run) → ruled Ruling.Ignored → r ≡ ignoredRun run → Steps head l wet most run r t t before before
-  steps-ignored r q i =
+  pub steps-ignored : (r : Run) (end : ℕ) → ruled Ruling.Ignored → r ≡ ignoredRun run → Ends (head .count) l end
+      → Steps head l wet most run (record { run = r; end = end }) t t before before
+  steps-ignored r end q i p =
       record {
         frames = rw i (omega arith);
         more = rw i (omega arith);
         small = rw i (omega arith);
+        passed = p;
         turned = λ f rest h e a. turned-ignored f rest h e a r q i;
       }
 
-  pub steps-cancelled : (r : Run) (u : Table) (after : List ℕ) → ruled Ruling.Cancelled → Cancels wet run r t u before after
-      → Steps head l wet most run r t u before after
-  steps-cancelled r u after q i =
+  pub steps-cancelled : (r : Run) (end : ℕ) (u : Table) (after : List ℕ) → ruled Ruling.Cancelled → Cancels wet run r t u before after → Ends (head .count) l end
+      → Steps head l wet most run (record { run = r; end = end }) t u before after
+  steps-cancelled r end u after q i p =
       let x = i .answer in
       let n = i .small in
       record {
         frames = rw x (omega arith);
         more = rw x (omega arith);
         small = rw x (omega arith);
+        passed = p;
         turned = λ f rest h e a. turned-cancelled f rest h e a r u after q i;
       }

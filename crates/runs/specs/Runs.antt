@@ -16,8 +16,9 @@ use Rattle.contacts.specs.Table.{Table, resting}
 use Rattle.contacts.specs.Conforms.{Rules}
 use Rattle.contacts.specs.Machine.{Machine, Counts, plus, countOf, verdict, cancels, stepMachine, stepBytes, runMachine, runBytes, runCounts}
 use Rattle.contacts.specs.Ruling.{contactsOf, rulesOf, Counted}
-use Rattle.moves.specs.Moves.{Applies}
+use Rattle.moves.specs.Moves.{Ends, Applies}
 use Rattle.runs.specs.declared.Run.{Run}
+use Rattle.runs.specs.declared.Stepped.{Stepped}
 
 -- ---- frames as they are written: with no offset where the client asked for none
 
@@ -39,6 +40,15 @@ pub record Lays (wet : Bool) (s before after : List ℕ) : Type 0 where
 
 abbrev pub LaysFrame : Bool → Head → List ℕ → List ℕ → List ℕ → Type 0
 LaysFrame wet head l before after = (cs : List Contact) (t : List ℕ) → contactsOf (head .count) l ≡ got cs t → Lays wet (headBytes head ++ contactsBytes cs) before after
+
+-- of n contacts, where there is room for their records: the table as they leave it, and their records
+pub record CarriesContacts (n : ℕ) (l : List ℕ) (end : ℕ) (t u : Table) (before after : List ℕ) : Type 0 where
+  pub table : Applies n l end t u
+  pub output : (cs : List Contact) (rest : List ℕ) → contactsOf n l ≡ got cs rest → after ≡ laid before (contactsBytes cs)
+
+pub record CarriesFrame (wet : Bool) (head : Head) (l : List ℕ) (end : ℕ) (t u : Table) (before after : List ℕ) : Type 0 where
+  pub table : Applies (head .count) l end t u
+  pub output : LaysFrame wet head l before after
 
 -- ---- a run so far
 
@@ -70,11 +80,10 @@ cancelledRun r =
 
 -- ---- one frame
 
-pub record Injects (head : Head) (active : ℕ) (l : List ℕ) (wet : Bool) (run r : Run) (t u : Table) (before after : List ℕ) : Type 0 where
-  pub answer : r ≡ injectedRun run (head .count) active
+pub record Injects (head : Head) (active : ℕ) (l : List ℕ) (wet : Bool) (run : Run) (r : Stepped) (t u : Table) (before after : List ℕ) : Type 0 where
+  pub answer : r .run ≡ injectedRun run (head .count) active
   pub small : head .count < 256
-  pub table : Applies (head .count) l t u
-  pub output : LaysFrame wet head l before after
+  pub carried : CarriesFrame wet head l (r .end) t u before after
 
 pub record Cancels (wet : Bool) (run r : Run) (t u : Table) (before after : List ℕ) : Type 0 where
   pub answer : r ≡ cancelledRun run
@@ -91,12 +100,13 @@ pub record Turned (rules : Rules) (f : Frame) (wet : Bool) (run r : Run) (t u : 
   pub output : Lays wet (stepBytes rules (machineOf run t) f) before after
 
 -- the frame of a head whose contacts are at the front of l; the bounds hold whatever is read
-pub record Steps (head : Head) (l : List ℕ) (wet : Bool) (most : ℕ) (run r : Run) (t u : Table) (before after : List ℕ) : Type 0 where
-  pub frames : framesOf r ≤ framesOf run + 1
-  pub more : run .records ≤ r .records
-  pub small : r .records ≤ run .records + 65536
+pub record Steps (head : Head) (l : List ℕ) (wet : Bool) (most : ℕ) (run : Run) (r : Stepped) (t u : Table) (before after : List ℕ) : Type 0 where
+  pub frames : framesOf (r .run) ≤ framesOf run + 1
+  pub more : run .records ≤ r .run .records
+  pub small : r .run .records ≤ run .records + 65536
+  pub passed : Ends (head .count) l (r .end)
   pub turned : (f : Frame) (rest : List ℕ) → head ≡ headOf f → contactsOf (head .count) l ≡ got (f .contacts) rest → Counted (run .active) (t .states)
-      → Turned (rulesOf most) f wet run r t u before after
+      → Turned (rulesOf most) f wet run (r .run) t u before after
 
 -- ---- the frames of a message
 

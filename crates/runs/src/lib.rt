@@ -1,4 +1,5 @@
 // The frames of a message, run through the table of contacts one after the other.
+mod carry;
 mod step;
 
 use house::Head;
@@ -17,6 +18,12 @@ pub struct Run {
     pub ignored: u8,
     pub cancelled: u8,
     pub records: usize,
+}
+
+// A run after one more frame, and where the frame's contacts end.
+pub(crate) struct Stepped {
+    pub run: Run,
+    pub end: usize,
 }
 
 // A head as it is written: with no offset where the client asked for none.
@@ -79,14 +86,14 @@ pub fn run_frames(
     let mut at: usize = 0;
     let mut left = n;
     while 0 < left {
-        let found = frame_records::find_frame(&frames[at..]);
-        let contacts = at + found.contacts;
+        let found = frame_records::find_head(&frames[at..]);
         let head = timed(found.head, untimed);
+        at += found.contacts;
         let before = run.records;
-        run = step::step(
+        let next = step::step(
             &mut out[pos..],
             wet,
-            &frames[contacts..],
+            &frames[at..],
             head,
             most,
             run,
@@ -94,8 +101,9 @@ pub fn run_frames(
             xs,
             ys,
         );
+        run = next.run;
         pos = pass(pos, run.records - before, out.len());
-        at += found.end;
+        at += next.end;
         left -= 1;
     }
     run

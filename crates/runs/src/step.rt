@@ -1,23 +1,18 @@
 // One frame.
 use crate::Run;
+use crate::Stepped;
+use crate::carry::carry;
 use contacts::Ruling;
 use house::Head;
+use touch::End;
 ghost use Prim.Native.Nat.{_+_, _≤_, _<_};
 ghost use mathlib.Core.Path.{_≡_};
 ghost use Rattle.contacts.specs.Machine.{cancels};
-ghost use Rattle.contacts.specs.Ruling.{tableOf};
-ghost use Rattle.runs.specs.Runs.{ignoredRun, framesOf, Lays, LaysFrame, Injects, Cancels, Steps};
+ghost use Rattle.contacts.specs.Ruling.{contactsOf, tableOf, Decides};
+ghost use Rattle.moves.specs.Moves.{Ends};
+ghost use Rattle.runs.specs.Runs.{machineOf, ignoredRun, framesOf, Lays, Injects, Cancels, Steps};
 
-// The records of an injected frame, where they are to be written.
-fn write_injected(out: &mut [u8], wet: bool, head: Head, rest: &[u8])
-    ensures { λ _. ⌜ LaysFrame wet head (now (rest .entry)) (now (out .entry)) (now (out .exit)) ⌝ }
-{
-    if wet {
-        frame_records::write_frame(out, head, rest);
-    }
-}
-
-// A conforming frame: its records, and its contacts in the table.
+// A conforming frame: its records, where they are to be written, and its contacts in the table.
 fn inject(
     out: &mut [u8],
     wet: bool,
@@ -28,20 +23,23 @@ fn inject(
     states: &mut [u8; 256],
     xs: &mut [i32; 256],
     ys: &mut [i32; 256],
-) -> Run
+) -> Stepped
     requires { ⌜ (framesOf run < 255) × (run .records ≤ 4294967296) ⌝ }
     ensures { λ r. ⌜ Injects head active (now (rest .entry)) wet run r (tableOf (now (states .entry)) (now (xs .entry)) (now (ys .entry))) (tableOf (now (states .exit)) (now (xs .exit)) (now (ys .exit))) (now (out .entry)) (now (out .exit)) ⌝ }
 {
     let count = head.count as usize;
-    write_injected(out, wet, head, rest);
-    moves::apply(rest, count, states, xs, ys);
-    Run {
+    let end = carry(out, wet, head, rest, states, xs, ys);
+    let next = Run {
         running: true,
         active: active,
         injected: run.injected + 1,
         ignored: run.ignored,
         cancelled: run.cancelled,
         records: run.records + count + 1,
+    };
+    Stepped {
+        run: next,
+        end: end,
     }
 }
 
@@ -93,6 +91,31 @@ fn ignore(run: Run) -> Run
     }
 }
 
+// Where n contacts end that are not looked at, 0 where they cannot be read.
+fn skip(rest: &[u8], n: usize) -> usize
+    ensures { λ r. ⌜ Ends n (now (rest .entry)) r ⌝ }
+{
+    match touch::skip_contacts(rest, n) {
+        End::At(end) => end,
+        End::Refused(_) => 0,
+    }
+}
+
+// What becomes of a frame, by its contacts and by the run so far.
+fn ruling_on(
+    run: Run,
+    rest: &[u8],
+    n: u16,
+    most: u16,
+    states: &[u8; 256],
+    xs: &[i32; 256],
+    ys: &[i32; 256],
+) -> Ruling
+    ensures { λ r. ⌜ Decides (machineOf run (tableOf (now (states .entry)) (now (xs .entry)) (now (ys .entry)))) most (run .active) (contactsOf n (now (rest .entry))) r ⌝ }
+{
+    contacts::verdict_of(run.running, rest, n, states, xs, ys, most, run.active)
+}
+
 // What becomes of a frame whose contacts are at the front of rest.
 pub(crate) fn step(
     out: &mut [u8],
@@ -104,15 +127,21 @@ pub(crate) fn step(
     states: &mut [u8; 256],
     xs: &mut [i32; 256],
     ys: &mut [i32; 256],
-) -> Run
+) -> Stepped
     requires { ⌜ (framesOf run < 255) × (run .records ≤ 4294967296) ⌝ }
     ensures { λ r. ⌜ Steps head (now (rest .entry)) wet most run r (tableOf (now (states .entry)) (now (xs .entry)) (now (ys .entry))) (tableOf (now (states .exit)) (now (xs .exit)) (now (ys .exit))) (now (out .entry)) (now (out .exit)) ⌝ }
 {
     let n = head.count as u16;
-    let ruling = contacts::verdict_of(run.running, rest, n, states, xs, ys, most, run.active);
+    let ruling = ruling_on(run, rest, n, most, states, xs, ys);
     match ruling {
         Ruling::Injected(active) => inject(out, wet, rest, head, active, run, states, xs, ys),
-        Ruling::Ignored => ignore(run),
-        Ruling::Cancelled => cancel(out, wet, run, states, xs, ys),
+        Ruling::Ignored => Stepped {
+            run: ignore(run),
+            end: skip(rest, head.count as usize),
+        },
+        Ruling::Cancelled => Stepped {
+            run: cancel(out, wet, run, states, xs, ys),
+            end: skip(rest, head.count as usize),
+        },
     }
 }

@@ -6,11 +6,11 @@ use mathlib.Core.Path.{_≡_, refl, _∙_}
 use mathlib.Core.Bool.{false}
 use mathlib.Core.List.{List}
 use native.Mathlib.Omega.{arith}
-use lib.ListN.{length}
+use lib.ListN.{length, take, drop, length-drop}
 use Rattle.formats.specs.Format.{got, readSeries}
+use Rattle.formats.proofs.Steps.{tail}
 use Rattle.touch.specs.Touch.{Frame}
 use Rattle.touch.proofs.Passes.{frameBy}
-use Rattle.frame_records.proofs.Finding.{Inside, inside}
 use Rattle.contacts.specs.Ruling.{tableOf, rulesOf, Counted}
 use Rattle.runs.specs.Runs.{framesOf, mostRecords}
 use Rattle.runs.proofs.Running.{Underway, underway-first, underway-next, underway-last}
@@ -44,23 +44,52 @@ loop-holds c =
       λ fs end e k. underway-first (a .most) (a .untimed) (a .wet) _ fs end _ _ _ (a .n) (a .active) (a .running) e k (c .start .ensures),
     )
 
-sub-find-frame : tie.Need-sub-find-frame Inv-loop μ-loop
-sub-find-frame c = search needs
+sub-find-head : tie.Need-sub-find-head Inv-loop μ-loop
+sub-find-head c = search needs
 
-part-find-frame-start : tie.Need-part-find-frame-start Inv-loop μ-loop
-part-find-frame-start c = search needs
+part-find-head-start : tie.Need-part-find-head-start Inv-loop μ-loop
+part-find-head-start c = search needs
 
-part-find-frame-end : tie.Need-part-find-frame-end Inv-loop μ-loop
-part-find-frame-end c = search needs
+part-find-head-end : tie.Need-part-find-head-end Inv-loop μ-loop
+part-find-head-end c = search needs
 
-find-frame-requires : tie.Need-find-frame-requires Inv-loop μ-loop
-find-frame-requires c κs = search needs
-
-add-contacts : tie.Need-add-contacts Inv-loop μ-loop
-add-contacts c = search needs
+find-head-requires : tie.Need-find-head-requires Inv-loop μ-loop
+find-head-requires c κs = search needs
 
 timed-requires : tie.Need-timed-requires Inv-loop μ-loop
 timed-requires c κs = search needs
+
+short : (c : tie.After-start Inv-loop μ-loop) → length (c .before .before .before .args .frames .now) < 2 ^ 64
+short c = omega arith
+
+-- the contacts of this turn's frame begin inside the message, and end there
+begins : (c : tie.After-struct-known Inv-loop μ-loop) →
+    let f = c .before .before in
+    let p = f .before .before .before in
+    p .loop .at + f .find-head .result .contacts ≤ length (p .before .before .before .before .args .frames .now)
+begins c =
+    let f = c .before .before in
+    let p = f .before .before .before in
+    let l = p .before .before .before .before .args .frames .now in
+    let n : length (take (length l - p .loop .at) (drop (p .loop .at) l)) ≡ length l - p .loop .at = rw (tail l (p .loop .at), length-drop) in
+    omega (arith, f .find-head .ensures .begins, p .loop .inv .0, n)
+
+ends : (c : tie.After-step Inv-loop μ-loop) →
+    let k = c .before .before .before .before .before .before in
+    let f = k .before .before in
+    let p = f .before .before .before in
+    p .loop .at + f .find-head .result .contacts + c .step .result .end ≤ length (p .before .before .before .before .args .frames .now)
+ends c =
+    let k = c .before .before .before .before .before .before in
+    let f = k .before .before in
+    let p = f .before .before .before in
+    let l = p .before .before .before .before .args .frames .now in
+    let at = p .loop .at + f .find-head .result .contacts in
+    let n : length (take (length l - at) (drop at l)) ≡ length l - at = rw (tail l at, length-drop) in
+    omega (arith, c .step .ensures .passed .inside, begins k, n)
+
+add-at : tie.Need-add-at Inv-loop μ-loop
+add-at c = omega (arith, begins c, short (c .before .before .before .before .before .before))
 
 sub-step : tie.Need-sub-step Inv-loop μ-loop
 sub-step c = search needs
@@ -88,52 +117,46 @@ sub-pass c = search needs
 
 pass-requires : tie.Need-pass-requires Inv-loop μ-loop
 pass-requires c κs =
-    let g = c .before .before .out .given .1 in
-    let s = c .before .before .before .step .ensures .small in
-    let p = c .before .before .before .before .before .before .before .before .before .before .before .before .before .before in
-    (omega (arith, g, p .loop .inv .1), omega (arith, s))
+    let o = c .before .before .before in
+    let s = o .before in
+    let p = s .before .before .before .before .before .before .before .before .before .before .before in
+    (omega (arith, o .out .given .1, p .loop .inv .1), omega (arith, s .step .ensures .small))
 
--- the frame of this turn ends inside the message
-found-frame : (c : tie.After-step Inv-loop μ-loop) →
-    let f = c .before .before .before .before .before .before .before .before in
-    let p = f .before .before .before in
-    Inside (p .before .before .before .before .args .frames .now) (p .loop .at) (f .find-frame .result) (f .find-frame .ensures)
-found-frame c =
-    let f = c .before .before .before .before .before .before .before .before in
-    let p = f .before .before .before in
-    inside (p .before .before .before .before .args .frames .now) (p .loop .at) (f .find-frame .result) (f .find-frame .ensures) (p .loop .inv .0)
+add-at-2 : tie.Need-add-at-2 Inv-loop μ-loop
+add-at-2 c =
+    let s = c .before .before .before .before .before .before in
+    let k = s .before .before .before .before .before .before in
+    omega (arith, begins k, ends s, short (k .before .before .before .before .before .before))
 
-short : (c : tie.After-start Inv-loop μ-loop) → length (c .before .before .before .args .frames .now) < 2 ^ 64
-short c = omega arith
-
-add-at : tie.Need-add-at Inv-loop μ-loop
-add-at c =
-    let s = c .before .before .before .before .before in
-    omega (arith, found-frame s .ends, short (s .before .before .before .before .before .before .before .before .before .before .before .before))
+-- a frame was left
+turning : (c : tie.After-struct-known3 Inv-loop μ-loop) →
+    let p = c .before .before .before .before .before .before .before .before .before .before .before .before .before .before .before .before .before in
+    0 < p .loop .left
+turning c = c .before .before .before .before .before .before .before .before .before .before .before .before .before .before .before .before .loop-test .taken
 
 sub-left : tie.Need-sub-left Inv-loop μ-loop
-sub-left c = search needs
+sub-left c = omega (arith, turning c)
 
 loop-less : tie.Need-loop-less Inv-loop μ-loop
-loop-less c = search needs
+loop-less c = omega (arith, turning c)
 
 loop-again : tie.Need-loop-again Inv-loop μ-loop
 loop-again c =
-    let s = c .before .before .before .before .before in
-    let d = s .before .before .before .before .before .before in
-    let f = d .before .before in
+    let s = c .before .before .before .before .before .before in
+    let d = s .before .before .before .before .before .before .before in
+    let f = d .before in
     let i = f .before .before in
     let p = i .before in
     let a = p .before .before .before .before .args in
     let b = s .step .ensures in
-    let g = c .before .before .before .before .out .given .1 in (
-      found-frame s .ends,
+    let g = c .before .before .before .before .before .out .given .1 in (
+      ends s,
       c .before .pass .ensures .inside,
       g ∙ p .loop .inv .2,
       omega (arith, b .frames),
       omega (arith, b .small),
       λ fs end e k.
-          underway-next (a .most) (a .untimed) (a .wet) _ fs end _ _ _ _ _ _ _ _ _ _ (p .loop .inv .5 fs end e k) (i .loop-test .taken) _ (f .find-frame .ensures) _ (d .timed .ensures) _ b _ (p .loop .inv .2) (c .before .pass .ensures) g,
+          underway-next (a .most) (a .untimed) (a .wet) _ fs end _ _ _ _ _ _ _ _ _ _ (p .loop .inv .5 fs end e k) (i .loop-test .taken) _ (f .find-head .ensures) _ (d .timed .ensures) _ b _ (p .loop .inv .2) (c .before .pass .ensures) g,
     )
 
 same-length : tie.Need-same-length Inv-loop μ-loop
@@ -151,12 +174,12 @@ run-frames-spec =
     μ-loop
     start-requires
     loop-holds
-    sub-find-frame
-    part-find-frame-start
-    part-find-frame-end
-    find-frame-requires
-    add-contacts
+    sub-find-head
+    part-find-head-start
+    part-find-head-end
+    find-head-requires
     timed-requires
+    add-at
     sub-step
     part-step-start
     part-step-end
@@ -166,7 +189,7 @@ run-frames-spec =
     step-requires
     sub-pass
     pass-requires
-    add-at
+    add-at-2
     sub-left
     loop-less
     loop-again

@@ -1,0 +1,155 @@
+/* The session host's end of the touch channel of [MS-RDPEI], for C and for what links like C.
+ *
+ * Every call takes every input and ends. It reads and writes nothing but what it is lent, keeps nothing between calls, asks for no
+ * memory, and is proved to do what its comment says. Bad input is refused by a number of the table below: a refusal has 0 in every
+ * other field of the answer, and changes no receiver and not one byte of the output.
+ *
+ * What is lent: a pointer and how many bytes stand there. The pointer is never null, also where there are 0 bytes, and what one
+ * call is lent does not overlap. A receiver is plain memory without pointers: copy it, move it, keep it where you like; one call
+ * at a time may use it. docs/HOST.md has a worked example and the stack that the calls take. */
+#ifndef KANGIRLO_H
+#define KANGIRLO_H
+
+#include <stddef.h>
+#include <stdint.h>
+
+#ifdef __cplusplus
+extern "C" {
+#endif
+
+/* Why a message, a record or a value is refused. */
+enum kangirlo_refusal {
+	KANGIRLO_TAKEN = 0,
+	KANGIRLO_SHORT = 1,         /* under 6 bytes */
+	KANGIRLO_TOO_LONG = 2,      /* over 4,096 bytes, read or to be written */
+	KANGIRLO_UNEXPECTED = 3,    /* an event that is not taken now */
+	KANGIRLO_BAD_LENGTH = 4,    /* pduLength differs from how many bytes there are */
+	KANGIRLO_TRUNCATED = 5,     /* the body ends inside a field, or before one that is due */
+	KANGIRLO_NOT_SHORTEST = 6,  /* an integer that is not in its only form */
+	KANGIRLO_BAD_COUNT = 7,     /* frames over 64, contacts over 63 */
+	KANGIRLO_BAD_FIELD = 8,     /* version, ready flags or fieldsPresent not listed */
+	KANGIRLO_BAD_FLAGS = 9,     /* contactFlags not in the state table */
+	KANGIRLO_BAD_RANGE = 10,    /* orientation, pressure; a value given to a writer */
+	KANGIRLO_BAD_OFFSET = 11,   /* the first frame's offset is not 0 */
+	KANGIRLO_TRAILING = 12,     /* bytes after the last field */
+	KANGIRLO_NO_ROOM = 13,      /* output shorter than what the call writes */
+	KANGIRLO_BAD_RECORD = 14    /* a record that is not well formed */
+};
+
+/* The limits: a message, a record, and the most that one message makes a receiver write. */
+enum { KANGIRLO_MESSAGE_MOST = 4096, KANGIRLO_RECORD_BYTES = 21, KANGIRLO_OUTPUT_MOST = 49152 };
+
+/* The kinds of a record: a frame's head, a frame's contact, a cancel, a dismissal. */
+enum kangirlo_kind { KANGIRLO_HEAD = 0, KANGIRLO_CONTACT = 1, KANGIRLO_CANCEL = 2, KANGIRLO_DISMISSAL = 3 };
+
+/* The two units of time are two types, so that neither stands for the other. */
+struct kangirlo_milliseconds { uint32_t value; };
+struct kangirlo_microseconds { uint64_t value; };
+
+/* What a client ready set. */
+struct kangirlo_settings {
+	uint32_t flags;
+	uint32_t version;
+	uint16_t most;          /* contacts that may be active at once */
+};
+
+/* One connection's receiver. Keep it and lend it; the fields are for looking at. A fresh one is all zeros. */
+struct kangirlo_receiver {
+	uint8_t ready;          /* not 0: has accepted a client ready */
+	uint8_t begun;          /* not 0: has accepted a touch message with a frame since */
+	uint8_t ignoring;       /* not 0: ignores frames until one opens */
+	struct kangirlo_settings settings;
+	uint8_t states[256];    /* by contact id: 0 out of range, 1 hovering, 2 engaged */
+	int32_t xs[256];
+	int32_t ys[256];
+};
+
+/* What became of a message. The three counts add up to the frames of the message. */
+struct kangirlo_answer {
+	uint8_t refusal;
+	uint8_t injected;
+	uint8_t ignored;
+	uint8_t cancelled;
+	struct kangirlo_milliseconds time;
+	size_t records;         /* records written from the output's first byte, 21 bytes each */
+};
+
+/* What the plain reading answers. */
+struct kangirlo_plain_answer {
+	uint8_t refusal;
+	struct kangirlo_milliseconds time;
+	size_t records;
+};
+
+/* What a writer answers. */
+struct kangirlo_written {
+	uint8_t refusal;
+	size_t bytes;
+};
+
+/* One record, read. Fields that its kind does not have are 0. */
+struct kangirlo_record {
+	uint8_t refusal;        /* 14: fewer than 21 bytes, or not well formed; every other field is 0 */
+	uint8_t kind;
+	uint8_t count;          /* of a head: how many contacts follow */
+	uint8_t flags;
+	uint8_t present;        /* which optional fields there are: 1 the sides, 2 orientation, 4 pressure */
+	uint8_t id;
+	uint16_t orientation;
+	uint16_t pressure;
+	int16_t left;
+	int16_t top;
+	int16_t right;
+	int16_t bottom;
+	int32_t x;
+	int32_t y;
+	struct kangirlo_microseconds offset;    /* of a head: the time since the frame before */
+};
+
+/* A receiver that has accepted nothing. */
+struct kangirlo_receiver kangirlo_fresh(void);
+
+/* Judges a message and carries it out: the receiver becomes what the message makes of it, its records stand from the output's first
+ * byte, and nothing past them is touched. Refused with 13 where the output is too short for them; 48 KiB is enough for any message. */
+struct kangirlo_answer kangirlo_receive(struct kangirlo_receiver *receiver, const uint8_t *message, size_t length, uint8_t *output,
+                                        size_t room);
+
+/* Reads a touch message by itself, with no receiver: its heads and contacts as records. */
+struct kangirlo_plain_answer kangirlo_plain(const uint8_t *message, size_t length, uint8_t *output, size_t room);
+
+/* The six writers: each writes its whole message from the output's first byte and touches nothing past it.
+ * The ready writers refuse a version or a flag that is not listed by 8; write_touch takes heads and contacts (kinds 0 and 1), each
+ * head followed by its count of contacts, and refuses by 10, 14, 7, 2; all refuse too little room by 13. */
+struct kangirlo_written kangirlo_write_server_ready(uint8_t *output, size_t room, uint32_t version);
+struct kangirlo_written kangirlo_write_client_ready(uint8_t *output, size_t room, uint32_t flags, uint32_t version, uint16_t most);
+struct kangirlo_written kangirlo_write_touch(uint8_t *output, size_t room, struct kangirlo_milliseconds time, const uint8_t *records,
+                                             size_t length);
+struct kangirlo_written kangirlo_write_suspend(uint8_t *output, size_t room);
+struct kangirlo_written kangirlo_write_resume(uint8_t *output, size_t room);
+struct kangirlo_written kangirlo_write_dismiss(uint8_t *output, size_t room, uint8_t id);
+
+/* Reads the record at the front of some bytes. */
+struct kangirlo_record kangirlo_read_record(const uint8_t *records, size_t length);
+
+#ifdef __cplusplus
+}
+#endif
+
+/* The layout that the library was compiled for: x86-64 Linux. */
+#ifdef __cplusplus
+#define KANGIRLO_ASSERT(test) static_assert(test, #test)
+#define KANGIRLO_ALIGN(type) alignof(type)
+#else
+#define KANGIRLO_ASSERT(test) _Static_assert(test, #test)
+#define KANGIRLO_ALIGN(type) _Alignof(type)
+#endif
+KANGIRLO_ASSERT(sizeof(struct kangirlo_settings) == 12 && KANGIRLO_ALIGN(struct kangirlo_settings) == 4);
+KANGIRLO_ASSERT(sizeof(struct kangirlo_receiver) == 2320 && KANGIRLO_ALIGN(struct kangirlo_receiver) == 4);
+KANGIRLO_ASSERT(offsetof(struct kangirlo_receiver, settings) == 4 && offsetof(struct kangirlo_receiver, states) == 16);
+KANGIRLO_ASSERT(offsetof(struct kangirlo_receiver, xs) == 272 && offsetof(struct kangirlo_receiver, ys) == 1296);
+KANGIRLO_ASSERT(sizeof(struct kangirlo_answer) == 16 && KANGIRLO_ALIGN(struct kangirlo_answer) == 8);
+KANGIRLO_ASSERT(sizeof(struct kangirlo_plain_answer) == 16 && KANGIRLO_ALIGN(struct kangirlo_plain_answer) == 8);
+KANGIRLO_ASSERT(sizeof(struct kangirlo_written) == 16 && KANGIRLO_ALIGN(struct kangirlo_written) == 8);
+KANGIRLO_ASSERT(sizeof(struct kangirlo_record) == 40 && KANGIRLO_ALIGN(struct kangirlo_record) == 8);
+
+#endif

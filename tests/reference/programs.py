@@ -19,17 +19,17 @@ def lines(data, line):
     return "".join(texts)
 
 
-# bench and records: one fresh receiver takes all entries
+# bench, records and in_place: one fresh receiver takes all entries
 
 
 def received(data):
-    """Each complete entry's answer and the bytes of its records."""
+    """Each complete entry's answer, the bytes of its records and the receiver after it."""
     payloads, _ = entries.split(data)
     keeper = receiver.Receiver()
     for payload in payloads:
         output = bytearray(LENT_TO_READERS)
         keeper, answer = receiver.receive(keeper, payload, output)
-        yield answer, bytes(output[: answer.records * house.LENGTH])
+        yield answer, bytes(output[: answer.records * house.LENGTH]), keeper
 
 
 def bench(data):
@@ -46,10 +46,21 @@ def bench_and_records(data):
     answers = iter(results)
 
     def line(_payload):
-        answer, _ = next(answers)
+        answer, _, _ = next(answers)
         return f"{answer.refusal} {answer.injected} {answer.ignored} {answer.cancelled} {answer.records}"
 
-    return lines(data, line), b"".join(written_records for _, written_records in results)
+    return lines(data, line), b"".join(written_records for _, written_records, _ in results)
+
+
+def in_place(data):
+    results = received(data)
+
+    def line(_payload):
+        answer, _, keeper = next(results)
+        marks = (keeper.ready, not keeper.before_first_frame, not keeper.running)
+        return " ".join(str(int(each)) for each in (answer.refusal, answer.records, *marks, len(keeper.active)))
+
+    return lines(data, line)
 
 
 # plain

@@ -54,6 +54,7 @@ pub const VERSION_101: u32 = 0x00010001;
 pub const FLAGS_END: u32 = 4;
 
 // The settings that a client ready message declares.
+#[repr(C)]
 pub struct Ready {
     pub flags: u32,
     pub version: u32,

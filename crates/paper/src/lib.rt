@@ -30,7 +30,9 @@ pub const NO_ROOM: u8 = 13;
 pub const BAD_RECORD: u8 = 14;
 
 // encodeTime (000, 2.2.3.3): milliseconds.
+#[repr(C)]
 pub struct Milliseconds(pub u32);
 
 // frameOffset (000, 2.2.3.3.1): microseconds.
+#[repr(C)]
 pub struct Microseconds(pub u64);

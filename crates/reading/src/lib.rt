@@ -8,6 +8,7 @@ ghost use mathlib.Core.Path.{_≡_};
 ghost use Rattle.reading.specs.Plain.{refusal, ReadsPlainly};
 
 // What the plain reading answers: a refusal's number, 0 for none; encodeTime; and how many records it wrote.
+#[repr(C)]
 pub struct PlainAnswer {
     pub refusal: u8,
     pub time: Milliseconds,

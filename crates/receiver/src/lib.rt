@@ -9,6 +9,7 @@ ghost use mathlib.Core.Path.{_≡_};
 ghost use Rattle.receiver.specs.Receive as spec;
 
 // One connection's receiver. Each mark is off where it is 0; a fresh receiver is all zeros.
+#[repr(C)]
 pub struct Receiver {
     // Has accepted a client ready.
     pub ready: u8,
@@ -24,6 +25,7 @@ pub struct Receiver {
 
 // What becomes of a message: a refusal's number, 0 for none; how many frames were injected, ignored and cancelled; encodeTime;
 // and how many records were written.
+#[repr(C)]
 pub struct Answer {
     pub refusal: u8,
     pub injected: u8,

@@ -3,6 +3,7 @@ ghost use lib.ListN.{length};
 ghost use Rattle.slices.specs.Writing.{bytes, Writes};
 
 // What a writer answers: a refusal's number, 0 for none, and how many bytes it wrote.
+#[repr(C)]
 pub struct Written {
     pub refusal: u8,
     pub bytes: usize,

@@ -1,0 +1,42 @@
+-- What the walks of calls that are lent a receiver speak of: values of the machine, and what whoever holds one knows of it.
+-- Assumes nothing.
+use Prim.Native.Nat.{ℕ}
+use mathlib.Core.List.{[], _∷_, List}
+use mir.Val.{Val}
+use denote.Laws.{Is}
+use denote.Struct.Laws as LL
+use Rattle.receiver.specs.declared.Receiver.{Receiver}
+use Rattle.receiver.specs.declared.Answer.{Answer}
+use Rattle.receiver.specs.declared.Received.{Received}
+use Rattle.receiver.proofs.Receiver as R
+use Rattle.receiver.proofs.Receiver.Laws as R′
+use Rattle.receiver.proofs.Answer as N
+use Rattle.receiver.proofs.Answer.Laws as N′
+use Rattle.receiver.proofs.Received as B
+use Rattle.receiver.proofs.Received.Laws as B′
+
+abbrev pub receiverVal : Receiver → Val
+receiverVal r = LL.val R.the-type R′.the-laws r
+
+abbrev pub answerVal : Answer → Val
+answerVal a = LL.val N.the-type N′.the-laws a
+
+abbrev pub bothVal : Received → Val
+bothVal b = LL.val B.the-type B′.the-laws b
+
+abbrev pub IsReceiver : Receiver → Type 0
+IsReceiver r = Is R.the-row r (receiverVal r ∷ [])
+
+abbrev pub IsAnswer : Answer → Type 0
+IsAnswer a = Is N.the-row a (answerVal a ∷ [])
+
+-- the two parts of what was received
+pub receiver-of : (b : Received) (vs : List Val) → Is B.the-row b vs → IsReceiver (b .receiver)
+receiver-of b vs is = LL.owed B.the-type B′.the-laws b vs is .0
+
+pub answer-of : (b : Received) (vs : List Val) → Is B.the-row b vs → IsAnswer (b .answer)
+answer-of b vs is = LL.owed B.the-type B′.the-laws b vs is .1 .0
+
+-- and what is received of its parts
+pub both-of : (r : Receiver) (a : Answer) → IsReceiver r → IsAnswer a → Is B.the-row (record { receiver = r; answer = a }) (bothVal (record { receiver = r; answer = a }) ∷ [])
+both-of r a ir ia = LL.owes B.the-type B′.the-laws (record { receiver = r; answer = a }) (ir, (ia, tt))

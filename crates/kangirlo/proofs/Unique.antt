@@ -1,0 +1,54 @@
+-- Two outcomes that the contract of a call allows are equal: in its answer, in the receiver that it was lent and in the output.
+-- Assumes nothing.
+use Prim.Native.Nat.{ℕ}
+use mathlib.Core.Path.{_≡_, sym, _∙_}
+use mathlib.Core.List.{List}
+use Rattle.paper.specs.declared.Milliseconds.{Milliseconds}
+use Rattle.slices.specs.Writing.{Draft, Writes}
+use Rattle.slices.specs.declared.Written.{Written}
+use Rattle.messages.specs.Bodies.{serverReadyDraft, clientReadyDraft, suspendDraft, resumeDraft, dismissDraft}
+use Rattle.messages.proofs.Unique.{writers-unique}
+use Rattle.reading.specs.Plain.{ReadsPlainly}
+use Rattle.reading.specs.declared.PlainAnswer.{PlainAnswer}
+use Rattle.reading.proofs.Unique.{plain-unique}
+use Rattle.writing.specs.TouchDraft.{touchDraft}
+use Rattle.writing.proofs.Unique.{write-touch-unique}
+use Rattle.receiver.specs.Receive.{fresh, Receives}
+use Rattle.receiver.specs.declared.Receiver.{Receiver}
+use Rattle.receiver.specs.declared.Answer.{Answer}
+use Rattle.receiver.proofs.Unique.{Same, fresh-unique, receive-unique}
+use Rattle.kangirlo.specs.Flat.{flat}
+use Rattle.kangirlo.specs.declared.FlatRecord.{FlatRecord}
+
+-- what a writer of the draft d answers and leaves
+abbrev One : Draft → Type 0
+One d = (v w : Written) (before after after′ : List ℕ) → Writes d v before after → Writes d w before after′ → (v ≡ w) × (after ≡ after′)
+
+pub record Calls : Type 0 where
+  pub kangirlo-fresh : (a b : Receiver) → a ≡ fresh → b ≡ fresh → a ≡ b
+  pub kangirlo-receive : (r : Receiver) (message before : List ℕ) (p q : Receiver) (a b : Answer) (s t : List ℕ)
+      → Receives r message before p a s → Receives r message before q b t → Same p q a b s t
+  pub kangirlo-plain : (message : List ℕ) (a b : PlainAnswer) (before after after′ : List ℕ)
+      → ReadsPlainly message a before after → ReadsPlainly message b before after′ → (a ≡ b) × (after ≡ after′)
+  pub kangirlo-write-server-ready : (version : ℕ) → One (serverReadyDraft version)
+  pub kangirlo-write-client-ready : (flags version most : ℕ) → One (clientReadyDraft (record { flags = flags; version = version; most = most }))
+  pub kangirlo-write-touch : (time : Milliseconds) (records : List ℕ) → One (touchDraft time records)
+  pub kangirlo-write-suspend : One suspendDraft
+  pub kangirlo-write-resume : One resumeDraft
+  pub kangirlo-write-dismiss : (id : ℕ) → One (dismissDraft id)
+  pub kangirlo-read-record : (records : List ℕ) (a b : FlatRecord) → a ≡ flat records → b ≡ flat records → a ≡ b
+
+pub calls-unique : Calls
+calls-unique =
+    record {
+      kangirlo-fresh = fresh-unique;
+      kangirlo-receive = receive-unique;
+      kangirlo-plain = plain-unique;
+      kangirlo-write-server-ready = writers-unique .write-server-ready;
+      kangirlo-write-client-ready = λ flags version most. writers-unique .write-client-ready (record { flags = flags; version = version; most = most });
+      kangirlo-write-touch = write-touch-unique;
+      kangirlo-write-suspend = writers-unique .write-suspend;
+      kangirlo-write-resume = writers-unique .write-resume;
+      kangirlo-write-dismiss = writers-unique .write-dismiss;
+      kangirlo-read-record = λ records a b e f. e ∙ sym f;
+    }

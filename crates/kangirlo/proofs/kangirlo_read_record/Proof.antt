@@ -1,0 +1,40 @@
+-- `kangirlo::kangirlo_read_record` meets its contract: being well formed picks the case.
+-- Assumes nothing.
+use mathlib.Core.Path.{_≡_, sym, ap, _∙_}
+use borrow.Author.Needs.{needs}
+use Rattle.kangirlo.specs.Flat.{flat, flattened}
+use Rattle.kangirlo.proofs.kangirlo_read_record.Statement.{statement}
+use Rattle.kangirlo.proofs.kangirlo_read_record.Tie as tie
+
+is-well-formed-requires : tie.Need-is-well-formed-requires
+is-well-formed-requires c κs = search needs
+
+read-record-requires : tie.Need-read-record-requires
+read-record-requires c κs = search needs
+
+flatten-requires : tie.Need-flatten-requires
+flatten-requires c κs = search needs
+
+returns : tie.Need-returns
+unfolding flat
+returns c =
+    let k = c .before .before in
+    rw (sym (k .before .is-well-formed .ensures) ∙ k .if1 .taken) (c .flatten .ensures ∙ ap flattened (c .before .read-record .ensures))
+
+refused-requires : tie.Need-refused-requires
+refused-requires c κs = search needs
+
+returns-2 : tie.Need-returns-2
+unfolding flat
+returns-2 c = rw (sym (c .before .before .is-well-formed .ensures) ∙ c .before .if1 .left) (c .refused .ensures)
+
+pub kangirlo-read-record-spec : {M : Type 1} → statement M
+kangirlo-read-record-spec =
+    tie.close
+    (tie.spec
+    is-well-formed-requires
+    read-record-requires
+    flatten-requires
+    returns
+    refused-requires
+    returns-2)

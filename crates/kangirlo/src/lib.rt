@@ -1,0 +1,214 @@
+// The C face: each call of include/kangirlo.h, a thin function over the call that does the work, with that call's contract.
+use house::Contact;
+use house::Head;
+use house::Record;
+use messages::Ready;
+use paper::Microseconds;
+use paper::Milliseconds;
+use reading::PlainAnswer;
+use receiver::Answer;
+use receiver::Receiver;
+use slices::Written;
+ghost use mathlib.Core.Path.{_≡_};
+ghost use Rattle.slices.specs.Writing.{Writes};
+ghost use Rattle.messages.specs.Bodies.{serverReadyDraft, clientReadyDraft, suspendDraft, resumeDraft, dismissDraft};
+ghost use Rattle.reading.specs.Plain.{ReadsPlainly};
+ghost use Rattle.writing.specs.TouchDraft.{touchDraft};
+ghost use Rattle.receiver.specs.Receive.{fresh, Receives};
+ghost use Rattle.kangirlo.specs.Flat.{flat, flattened, flatHead, flatContact, refused as refusedRecord};
+
+// A record as numbers alone, since an enum does not cross to C. What its kind does not have is 0.
+#[repr(C)]
+pub struct FlatRecord {
+    pub refusal: u8,
+    pub kind: u8,
+    pub count: u8,
+    pub flags: u8,
+    pub present: u8,
+    pub id: u8,
+    pub orientation: u16,
+    pub pressure: u16,
+    pub left: i16,
+    pub top: i16,
+    pub right: i16,
+    pub bottom: i16,
+    pub x: i32,
+    pub y: i32,
+    pub offset: Microseconds,
+}
+
+// A receiver that has accepted nothing.
+#[no_mangle]
+pub extern "C" fn kangirlo_fresh() -> Receiver
+    ensures { λ r. ⌜ r ≡ fresh ⌝ }
+{
+    receiver::fresh()
+}
+
+// A message, judged and carried out on a receiver where it stands, or refused with nothing changed.
+#[no_mangle]
+pub extern "C" fn kangirlo_receive(
+    receiver: &mut Receiver,
+    message: &[u8],
+    output: &mut [u8],
+) -> Answer
+    ensures { λ a. ⌜ Receives (now (receiver .entry)) (now (message .entry)) (now (output .entry)) (now (receiver .exit)) a (now (output .exit)) ⌝ }
+{
+    let received = receiver::receive(*receiver, message, output);
+    *receiver = received.receiver;
+    received.answer
+}
+
+// A touch message read by itself.
+#[no_mangle]
+pub extern "C" fn kangirlo_plain(message: &[u8], output: &mut [u8]) -> PlainAnswer
+    ensures { λ r. ⌜ ReadsPlainly (now (message .entry)) r (now (output .entry)) (now (output .exit)) ⌝ }
+{
+    reading::plain(message, output)
+}
+
+#[no_mangle]
+pub extern "C" fn kangirlo_write_server_ready(output: &mut [u8], version: u32) -> Written
+    ensures { λ r. ⌜ Writes (serverReadyDraft version) r (now (output .entry)) (now (output .exit)) ⌝ }
+{
+    messages::write_server_ready(output, version)
+}
+
+#[no_mangle]
+pub extern "C" fn kangirlo_write_client_ready(
+    output: &mut [u8],
+    flags: u32,
+    version: u32,
+    most: u16,
+) -> Written
+    ensures { λ r. ⌜ Writes (clientReadyDraft (record { flags = flags; version = version; most = most })) r (now (output .entry)) (now (output .exit)) ⌝ }
+{
+    let ready = Ready {
+        flags: flags,
+        version: version,
+        most: most,
+    };
+    messages::write_client_ready(output, ready)
+}
+
+#[no_mangle]
+pub extern "C" fn kangirlo_write_touch(
+    output: &mut [u8],
+    time: Milliseconds,
+    records: &[u8],
+) -> Written
+    ensures { λ r. ⌜ Writes (touchDraft time (now (records .entry))) r (now (output .entry)) (now (output .exit)) ⌝ }
+{
+    writing::write_touch(output, time, records)
+}
+
+#[no_mangle]
+pub extern "C" fn kangirlo_write_suspend(output: &mut [u8]) -> Written
+    ensures { λ r. ⌜ Writes suspendDraft r (now (output .entry)) (now (output .exit)) ⌝ }
+{
+    messages::write_suspend(output)
+}
+
+#[no_mangle]
+pub extern "C" fn kangirlo_write_resume(output: &mut [u8]) -> Written
+    ensures { λ r. ⌜ Writes resumeDraft r (now (output .entry)) (now (output .exit)) ⌝ }
+{
+    messages::write_resume(output)
+}
+
+#[no_mangle]
+pub extern "C" fn kangirlo_write_dismiss(output: &mut [u8], id: u8) -> Written
+    ensures { λ r. ⌜ Writes (dismissDraft id) r (now (output .entry)) (now (output .exit)) ⌝ }
+{
+    messages::write_dismiss(output, id)
+}
+
+fn refused(refusal: u8) -> FlatRecord
+    ensures { λ r. ⌜ r ≡ refusedRecord refusal ⌝ }
+{
+    FlatRecord {
+        refusal: refusal,
+        kind: 0,
+        count: 0,
+        flags: 0,
+        present: 0,
+        id: 0,
+        orientation: 0,
+        pressure: 0,
+        left: 0,
+        top: 0,
+        right: 0,
+        bottom: 0,
+        x: 0,
+        y: 0,
+        offset: Microseconds(0),
+    }
+}
+
+fn flatten_head(head: Head) -> FlatRecord
+    ensures { λ r. ⌜ r ≡ flatHead head ⌝ }
+{
+    let offset = head.offset;
+    FlatRecord {
+        refusal: 0,
+        kind: house::HEAD,
+        count: head.count,
+        flags: 0,
+        present: 0,
+        id: 0,
+        orientation: 0,
+        pressure: 0,
+        left: 0,
+        top: 0,
+        right: 0,
+        bottom: 0,
+        x: 0,
+        y: 0,
+        offset: offset,
+    }
+}
+
+fn flatten_contact(kind: u8, contact: Contact) -> FlatRecord
+    ensures { λ r. ⌜ r ≡ flatContact kind contact ⌝ }
+{
+    let place = contact.place;
+    let sides = contact.sides;
+    FlatRecord {
+        refusal: 0,
+        kind: kind,
+        count: 0,
+        flags: contact.flags,
+        present: contact.present,
+        id: contact.id,
+        orientation: contact.orientation,
+        pressure: contact.pressure,
+        left: sides.left,
+        top: sides.top,
+        right: sides.right,
+        bottom: sides.bottom,
+        x: place.x,
+        y: place.y,
+        offset: Microseconds(0),
+    }
+}
+
+fn flatten(read: Record) -> FlatRecord
+    ensures { λ r. ⌜ r ≡ flattened read ⌝ }
+{
+    match read {
+        Record::Head(head) => flatten_head(head),
+        Record::Contact(kind, contact) => flatten_contact(kind, contact),
+        Record::Refused(refusal) => refused(refusal),
+    }
+}
+
+// The record at the front of a slice of records, where it is whole and well formed.
+#[no_mangle]
+pub extern "C" fn kangirlo_read_record(records: &[u8]) -> FlatRecord
+    ensures { λ r. ⌜ r ≡ flat (now (records .entry)) ⌝ }
+{
+    if house::is_well_formed(records) {
+        return flatten(house::read_record(records));
+    }
+    refused(paper::BAD_RECORD)
+}

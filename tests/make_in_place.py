@@ -1,0 +1,35 @@
+"""Writes the corpus of 'in_place': the rules' example after some refused entries, and a few hundred entries more, for one receiver."""
+
+import random
+
+import corpus
+import make_bench
+from histories import History
+from reference import programs
+
+SEED = 20260207
+
+
+def history():
+    sent, rng = History(), random.Random(SEED)
+    ready = bytes.fromhex(make_bench.EXAMPLE[0])
+    sent.send_all(rng.sample(list(make_bench.before_ready(ready)), 20))
+    sent.send(ready)
+    make_bench.example(sent)
+    make_bench.dismissals(sent, rng)
+    make_bench.walk(sent, rng, make_bench.IDS, 250)
+    return sent
+
+
+def main():
+    directory = corpus.output_directory()
+    sent = history()
+    stdin = corpus.joined(sent.entries, corpus.cut_entry(corpus.dismiss(1)))
+    stdout = programs.in_place(stdin)
+    corpus.write_files(directory, {"stdin": stdin, "stdout": stdout})
+    corpus.report_refusals(stdout)
+    sent.coverage.report()
+
+
+if __name__ == "__main__":
+    main()

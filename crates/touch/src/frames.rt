@@ -135,11 +135,13 @@ pub fn read_touch_head(rest: &[u8]) -> ReadTouchHead
     let ReadU2::Value(count, n) = got_count else {
         return ReadTouchHead::Refused(got_count.refusal());
     };
+    let frames = count as u8;
+    let end = at_count + n;
     let found = TouchHead {
         time: Milliseconds(time),
-        frames: count as u8,
+        frames: frames,
     };
-    ReadTouchHead::Value(found, at_count + n)
+    ReadTouchHead::Value(found, end)
 }
 
 // The whole body, judged to its last byte.

@@ -90,13 +90,13 @@ returns-2 c =
     let b = stop (frameCount strict) (lent k) (at-count k) _ _ (rw t at (r .read-count .ensures)) in
     record { same = rw (c .refusal2 .ensures, t, time-read k .reads, b); inside = omega arith }
 
-cast-t16 : tie.Need-cast-t16
-cast-t16 c =
+cast-frames : tie.Need-cast-frames
+cast-frames c =
     let n = passed (strict .u2) (λ n. leb n mostFrames) badCount (lent (up c)) (at-count (up c)) _ _ (count-read c) in
     omega (arith, leb-true)
 
-add-t11 : tie.Need-add-t11
-add-t11 c = omega (arith, count-read c .ends)
+add-end : tie.Need-add-end
+add-end c = omega (arith, count-read c .ends)
 
 returns-3 : tie.Need-returns-3
 unfolding touchHead
@@ -119,6 +119,6 @@ read-touch-head-spec =
     enum-told-2
     refusal-requires-2
     returns-2
-    cast-t16
-    add-t11
+    cast-frames
+    add-end
     returns-3)

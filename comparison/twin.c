@@ -1,0 +1,515 @@
+/* The second receiver. A message is judged whole first, into an array of contacts; then its frames are run over the table of
+ * contacts where it stands. */
+#include "twin.h"
+
+#include <stdbool.h>
+#include <string.h>
+
+/* 01, "Refusal numbers and their order" */
+enum refusal {
+	TAKEN = 0,
+	SHORT = 1,
+	TOO_LONG = 2,
+	UNEXPECTED = 3,
+	BAD_LENGTH = 4,
+	TRUNCATED = 5,
+	NOT_SHORTEST = 6,
+	BAD_COUNT = 7,
+	BAD_FIELD = 8,
+	BAD_FLAGS = 9,
+	BAD_RANGE = 10,
+	BAD_OFFSET = 11,
+	TRAILING = 12,
+	NO_ROOM = 13
+};
+
+/* 01, "Messages" */
+enum event { CLIENT_READY = 2, TOUCH = 3, DISMISS = 6 };
+enum { HEADER_BYTES = 6, FRAMES_MOST = 64, FRAME_CONTACTS_MOST = 63 };
+enum { SIDES = 1, ORIENTATION = 2, PRESSURE = 4 };
+enum { ORIENTATION_MOST = 359, PRESSURE_MOST = 65000 };
+
+/* A contact takes 5 bytes or more, so that a message has no more of them than this. */
+enum { CONTACTS_MOST = TWIN_MESSAGE_MOST / 5 };
+
+enum kind { HEAD, CONTACT, CANCEL, DISMISSAL };
+
+struct contact {
+	uint8_t id;
+	uint8_t flags;
+	uint8_t present;
+	int16_t side[4];        /* left, top, right, bottom */
+	uint16_t orientation;
+	uint16_t pressure;
+	int32_t x;
+	int32_t y;
+};
+
+struct frame {
+	uint64_t offset;        /* microseconds */
+	unsigned count;
+};
+
+struct touch {
+	uint32_t time;          /* milliseconds */
+	unsigned frames;
+	unsigned contacts;
+	struct frame frame[FRAMES_MOST];
+	struct contact contact[CONTACTS_MOST];
+};
+
+/* 01, "Contact states": the states that contactFlags may be met in, as a set of bits, the state they lead to, and whether the
+ * position must be the stored one. No state allows flags that are not listed. */
+struct rule {
+	uint8_t from;
+	uint8_t to;
+	bool stays;
+};
+
+#define IN(state) (1u << (state))
+
+static const struct rule rules[] = {
+	[0x0A] = { IN(TWIN_OUT) | IN(TWIN_HOVERING), TWIN_HOVERING, false },
+	[0x19] = { IN(TWIN_OUT) | IN(TWIN_HOVERING), TWIN_ENGAGED, false },
+	[0x1A] = { IN(TWIN_ENGAGED), TWIN_ENGAGED, false },
+	[0x0C] = { IN(TWIN_ENGAGED), TWIN_HOVERING, true },
+	[0x04] = { IN(TWIN_ENGAGED), TWIN_OUT, true },
+	[0x24] = { IN(TWIN_ENGAGED), TWIN_OUT, true },
+	[0x02] = { IN(TWIN_HOVERING), TWIN_OUT, false },
+	[0x22] = { IN(TWIN_HOVERING), TWIN_OUT, false },
+};
+enum { RULES = sizeof rules / sizeof rules[0], DOWN = 0x19 };
+
+/* Reading. What is left of the message stands from at to end. A reader answers its refusal, and moves at past the field. */
+struct source {
+	const uint8_t *at;
+	const uint8_t *end;
+};
+
+static enum refusal read_byte(struct source *in, uint8_t *value)
+{
+	if (in->at == in->end)
+		return TRUNCATED;
+	*value = *in->at++;
+	return TAKEN;
+}
+
+static uint32_t little16(const uint8_t *at)
+{
+	return (uint32_t)at[1] << 8 | at[0];
+}
+
+static uint32_t little32(const uint8_t *at)
+{
+	return little16(at + 2) << 16 | little16(at);
+}
+
+static enum refusal read_little16(struct source *in, uint32_t *value)
+{
+	if (in->end - in->at < 2)
+		return TRUNCATED;
+	*value = little16(in->at);
+	in->at += 2;
+	return TAKEN;
+}
+
+static enum refusal read_little32(struct source *in, uint32_t *value)
+{
+	if (in->end - in->at < 4)
+		return TRUNCATED;
+	*value = little32(in->at);
+	in->at += 4;
+	return TAKEN;
+}
+
+/* 01, "The five integers": c bits for the count of further bytes, perhaps a sign bit, then the value. The shortest form is the
+ * only one: a value that would fit in one byte less is refused. */
+static inline enum refusal read_magnitude(struct source *in, unsigned c_bits, unsigned sign_bits, uint64_t *value, bool *negative)
+{
+	const unsigned first_bits = 8 - c_bits - sign_bits;
+	unsigned first, further;
+	uint64_t read;
+
+	if (in->at == in->end)
+		return TRUNCATED;
+	first = *in->at;
+	further = first >> (8 - c_bits);
+	if ((size_t)(in->end - in->at) <= further)
+		return TRUNCATED;
+	read = first & ((1u << first_bits) - 1);
+	*negative = sign_bits != 0 && (first >> first_bits & 1) != 0;
+	for (unsigned i = 1; i <= further; i++)
+		read = read << 8 | in->at[i];
+	if (further > 0 && read >> (first_bits + 8 * (further - 1)) == 0)
+		return NOT_SHORTEST;
+	in->at += 1 + further;
+	*value = read;
+	return TAKEN;
+}
+
+static inline enum refusal read_unsigned(struct source *in, unsigned c_bits, uint64_t *value)
+{
+	bool negative;
+
+	return read_magnitude(in, c_bits, 0, value, &negative);
+}
+
+static inline enum refusal read_signed(struct source *in, unsigned c_bits, int32_t *value)
+{
+	uint64_t magnitude;
+	bool negative;
+	enum refusal refusal = read_magnitude(in, c_bits, 1, &magnitude, &negative);
+
+	if (refusal != TAKEN)
+		return refusal;
+	if (negative && magnitude == 0)
+		return NOT_SHORTEST;
+	*value = negative ? -(int32_t)magnitude : (int32_t)magnitude;
+	return TAKEN;
+}
+
+/* An unsigned integer that has a greatest value, and the refusal of a greater one. */
+static inline enum refusal read_limited(struct source *in, unsigned c_bits, unsigned most, enum refusal above, unsigned *value)
+{
+	uint64_t read;
+	enum refusal refusal = read_unsigned(in, c_bits, &read);
+
+	if (refusal != TAKEN)
+		return refusal;
+	if (read > most)
+		return above;
+	*value = (unsigned)read;
+	return TAKEN;
+}
+
+enum { U2 = 1, S2 = 1, U4 = 2, S4 = 2, U8 = 3 };
+
+static enum refusal read_sides(struct source *in, int16_t side[4])
+{
+	for (unsigned i = 0; i < 4; i++) {
+		int32_t value;
+		enum refusal refusal = read_signed(in, S2, &value);
+
+		if (refusal != TAKEN)
+			return refusal;
+		side[i] = (int16_t)value;
+	}
+	return TAKEN;
+}
+
+static enum refusal read_optional(struct source *in, struct contact *contact)
+{
+	enum refusal refusal = TAKEN;
+	unsigned orientation = 0, pressure = 0;
+
+	memset(contact->side, 0, sizeof contact->side);
+	if (contact->present & SIDES)
+		refusal = read_sides(in, contact->side);
+	if (refusal == TAKEN && contact->present & ORIENTATION)
+		refusal = read_limited(in, U4, ORIENTATION_MOST, BAD_RANGE, &orientation);
+	if (refusal == TAKEN && contact->present & PRESSURE)
+		refusal = read_limited(in, U4, PRESSURE_MOST, BAD_RANGE, &pressure);
+	contact->orientation = (uint16_t)orientation;
+	contact->pressure = (uint16_t)pressure;
+	return refusal;
+}
+
+static enum refusal read_contact(struct source *in, struct contact *contact)
+{
+	unsigned present = 0, flags = 0;
+	enum refusal refusal = read_byte(in, &contact->id);
+
+	if (refusal == TAKEN)
+		refusal = read_limited(in, U2, SIDES | ORIENTATION | PRESSURE, BAD_FIELD, &present);
+	if (refusal == TAKEN)
+		refusal = read_signed(in, S4, &contact->x);
+	if (refusal == TAKEN)
+		refusal = read_signed(in, S4, &contact->y);
+	if (refusal == TAKEN)
+		refusal = read_limited(in, U4, RULES - 1, BAD_FLAGS, &flags);
+	if (refusal != TAKEN)
+		return refusal;
+	if (rules[flags].from == 0)
+		return BAD_FLAGS;
+	contact->present = (uint8_t)present;
+	contact->flags = (uint8_t)flags;
+	return read_optional(in, contact);
+}
+
+/* The contacts of a frame go behind those of the frames before it. */
+static enum refusal read_frame(struct source *in, struct touch *touch, struct frame *frame, bool first)
+{
+	enum refusal refusal = read_limited(in, U2, FRAME_CONTACTS_MOST, BAD_COUNT, &frame->count);
+
+	if (refusal == TAKEN)
+		refusal = read_unsigned(in, U8, &frame->offset);
+	if (refusal == TAKEN && first && frame->offset != 0)
+		refusal = BAD_OFFSET;
+	for (unsigned i = 0; refusal == TAKEN && i < frame->count; i++)
+		refusal = read_contact(in, &touch->contact[touch->contacts++]);
+	return refusal;
+}
+
+/* The whole body of a touch message. With ready flag 2 an offset is read and then counts as 0, and so does encodeTime. */
+static enum refusal read_touch(const struct twin *twin, struct source *in, struct touch *touch)
+{
+	const bool times = (twin->flags & TWIN_NO_TIMES) == 0;
+	uint64_t time;
+	enum refusal refusal = read_unsigned(in, U4, &time);
+
+	touch->contacts = 0;
+	if (refusal == TAKEN)
+		refusal = read_limited(in, U2, FRAMES_MOST, BAD_COUNT, &touch->frames);
+	if (refusal != TAKEN)
+		return refusal;
+	touch->time = times ? (uint32_t)time : 0;
+	for (unsigned i = 0; i < touch->frames; i++) {
+		refusal = read_frame(in, touch, &touch->frame[i], i == 0 && times && !twin->begun);
+		if (refusal != TAKEN)
+			return refusal;
+		if (!times)
+			touch->frame[i].offset = 0;
+	}
+	return in->at == in->end ? TAKEN : TRAILING;
+}
+
+/* Writing, by 01, "House records": the first bit is the most significant one of the first byte. */
+static void put_big32(uint8_t *at, uint32_t value)
+{
+	at[0] = (uint8_t)(value >> 24);
+	at[1] = (uint8_t)(value >> 16);
+	at[2] = (uint8_t)(value >> 8);
+	at[3] = (uint8_t)value;
+}
+
+static void put_big64(uint8_t *at, uint64_t value)
+{
+	put_big32(at, (uint32_t)(value >> 32));
+	put_big32(at + 4, (uint32_t)value);
+}
+
+static void put_head(uint8_t *at, const struct frame *frame)
+{
+	at[0] = (uint8_t)(HEAD << 6 | frame->count);
+	put_big64(at + 1, frame->offset << 3);
+	memset(at + 9, 0, TWIN_RECORD_BYTES - 9);
+}
+
+static inline uint64_t low(int32_t value, unsigned bits)
+{
+	return (uint64_t)(uint32_t)value & ((UINT64_C(1) << bits) - 1);
+}
+
+/* Byte one is kind and flags; then 64 bits up to the first 23 of y, 64 up to the first 12 of the bottom side, and 32. */
+static void put_contact(uint8_t *at, enum kind kind, const struct contact *contact)
+{
+	const uint64_t y = low(contact->y, 30), bottom = low(contact->side[3], 15);
+
+	at[0] = (uint8_t)(kind << 6 | contact->flags);
+	put_big64(at + 1, (uint64_t)contact->present << 61 | (uint64_t)contact->id << 53 | low(contact->x, 30) << 23 | y >> 7);
+	put_big64(at + 9, y << 57 | low(contact->side[0], 15) << 42 | low(contact->side[1], 15) << 27 |
+	                  low(contact->side[2], 15) << 12 | bottom >> 3);
+	put_big32(at + 17, (uint32_t)(bottom & 7) << 29 | (uint32_t)contact->orientation << 20 | (uint32_t)contact->pressure << 4);
+}
+
+/* Writes a record for a contact as it is stored, and takes the contact out of range. */
+static void put_out(struct twin *twin, uint8_t *at, enum kind kind, uint8_t id, uint8_t flags)
+{
+	const struct contact contact = { .id = id, .flags = flags, .x = twin->x[id], .y = twin->y[id] };
+
+	put_contact(at, kind, &contact);
+	twin->state[id] = TWIN_OUT;
+	twin->x[id] = 0;
+	twin->y[id] = 0;
+	twin->active--;
+}
+
+/* Running, by 01, "Contact states". */
+static bool conforms(const struct twin *twin, const struct contact *contact, unsigned count)
+{
+	uint64_t seen[4] = { 0 };
+	int active = twin->active;
+
+	for (unsigned i = 0; i < count; i++, contact++) {
+		const struct rule *rule = &rules[contact->flags];
+		const uint8_t id = contact->id, state = twin->state[id];
+		const uint64_t bit = UINT64_C(1) << id % 64;
+
+		if (seen[id / 64] & bit)
+			return false;
+		seen[id / 64] |= bit;
+		if ((rule->from & IN(state)) == 0)
+			return false;
+		if (rule->stays && (contact->x != twin->x[id] || contact->y != twin->y[id]))
+			return false;
+		active += (rule->to != TWIN_OUT) - (state != TWIN_OUT);
+	}
+	return active <= twin->most;
+}
+
+static bool opens(const struct contact *contact, unsigned count)
+{
+	for (unsigned i = 0; i < count; i++)
+		if (contact[i].flags != DOWN)
+			return false;
+	return count > 0;
+}
+
+static size_t inject(struct twin *twin, const struct frame *frame, const struct contact *contact, uint8_t *at)
+{
+	put_head(at, frame);
+	for (unsigned i = 0; i < frame->count; i++, contact++) {
+		const uint8_t id = contact->id, to = rules[contact->flags].to;
+
+		at += TWIN_RECORD_BYTES;
+		put_contact(at, CONTACT, contact);
+		twin->active = (uint16_t)(twin->active + (to != TWIN_OUT) - (twin->state[id] != TWIN_OUT));
+		twin->state[id] = to;
+		twin->x[id] = to == TWIN_OUT ? 0 : contact->x;
+		twin->y[id] = to == TWIN_OUT ? 0 : contact->y;
+	}
+	twin->ignoring = 0;
+	return 1 + (size_t)frame->count;
+}
+
+static size_t cancel(struct twin *twin, uint8_t *at)
+{
+	const size_t records = twin->active;
+
+	for (unsigned id = 0; twin->active > 0; id++) {
+		if (twin->state[id] == TWIN_OUT)
+			continue;
+		put_out(twin, at, CANCEL, (uint8_t)id, twin->state[id] == TWIN_ENGAGED ? 0x24 : 0x22);
+		at += TWIN_RECORD_BYTES;
+	}
+	twin->ignoring = 1;
+	return records;
+}
+
+static struct twin_answer run_frames(struct twin *twin, const struct touch *touch, uint8_t *output)
+{
+	struct twin_answer answer = { .time = touch->time };
+	const struct contact *contact = touch->contact;
+
+	for (unsigned i = 0; i < touch->frames; i++) {
+		const struct frame *frame = &touch->frame[i];
+		uint8_t *at = output + answer.records * TWIN_RECORD_BYTES;
+
+		if (twin->ignoring && !opens(contact, frame->count)) {
+			answer.ignored++;
+		} else if (conforms(twin, contact, frame->count)) {
+			answer.records += inject(twin, frame, contact, at);
+			answer.injected++;
+		} else {
+			answer.records += cancel(twin, at);
+			answer.cancelled++;
+		}
+		contact += frame->count;
+	}
+	if (touch->frames > 0)
+		twin->begun = 1;
+	return answer;
+}
+
+static struct twin_answer refused(enum refusal refusal)
+{
+	return (struct twin_answer){ .refusal = (uint8_t)refusal };
+}
+
+/* Where it is not plain that the output is long enough: a copy of the receiver runs into output of its own, and both are kept
+ * only if the records fit. */
+static struct twin_answer run_in_doubt(struct twin *twin, const struct touch *touch, uint8_t *output, size_t room)
+{
+	uint8_t records[TWIN_OUTPUT_MOST];
+	struct twin after = *twin;
+	struct twin_answer answer = run_frames(&after, touch, records);
+
+	if (answer.records * TWIN_RECORD_BYTES > room)
+		return refused(NO_ROOM);
+	memcpy(output, records, answer.records * TWIN_RECORD_BYTES);
+	*twin = after;
+	return answer;
+}
+
+static struct twin_answer receive_touch(struct twin *twin, struct source in, uint8_t *output, size_t room)
+{
+	struct touch touch;
+	const enum refusal refusal = read_touch(twin, &in, &touch);
+	size_t most;
+
+	if (refusal != TAKEN)
+		return refused(refusal);
+	/* heads, contacts, and a cancel for each contact that was active or that this message made so */
+	most = (size_t)touch.frames + 2 * touch.contacts + twin->active;
+	if (most * TWIN_RECORD_BYTES > room)
+		return run_in_doubt(twin, &touch, output, room);
+	return run_frames(twin, &touch, output);
+}
+
+static struct twin_answer receive_dismiss(struct twin *twin, struct source in, uint8_t *output, size_t room)
+{
+	struct twin_answer answer = refused(TAKEN);
+	uint8_t id;
+
+	if (read_byte(&in, &id) != TAKEN)
+		return refused(TRUNCATED);
+	if (in.at != in.end)
+		return refused(TRAILING);
+	if (twin->state[id] != TWIN_HOVERING)
+		return answer;
+	if (room < TWIN_RECORD_BYTES)
+		return refused(NO_ROOM);
+	put_out(twin, output, DISMISSAL, id, 0x02);
+	answer.records = 1;
+	return answer;
+}
+
+static struct twin_answer receive_ready(struct twin *twin, struct source in)
+{
+	uint32_t flags, version, most;
+
+	if (read_little32(&in, &flags) != TAKEN)
+		return refused(TRUNCATED);
+	if (flags > 3)
+		return refused(BAD_FIELD);
+	if (read_little32(&in, &version) != TAKEN)
+		return refused(TRUNCATED);
+	if (version != 0x00010000 && version != 0x00010001)
+		return refused(BAD_FIELD);
+	if (read_little16(&in, &most) != TAKEN)
+		return refused(TRUNCATED);
+	if (in.at != in.end)
+		return refused(TRAILING);
+	twin->ready = 1;
+	twin->flags = flags;
+	twin->version = version;
+	twin->most = (uint16_t)most;
+	return refused(TAKEN);
+}
+
+void twin_fresh(struct twin *twin)
+{
+	memset(twin, 0, sizeof *twin);
+}
+
+struct twin_answer twin_receive(struct twin *twin, const uint8_t *message, size_t n, uint8_t *output, size_t room)
+{
+	struct source in;
+	unsigned event;
+
+	if (n < HEADER_BYTES)
+		return refused(SHORT);
+	if (n > TWIN_MESSAGE_MOST)
+		return refused(TOO_LONG);
+	event = little16(message);
+	if (twin->ready ? event != TOUCH && event != DISMISS : event != CLIENT_READY)
+		return refused(UNEXPECTED);
+	if (little32(message + 2) != n)
+		return refused(BAD_LENGTH);
+	in = (struct source){ message + HEADER_BYTES, message + n };
+	if (event == TOUCH)
+		return receive_touch(twin, in, output, room);
+	if (event == DISMISS)
+		return receive_dismiss(twin, in, output, room);
+	return receive_ready(twin, in);
+}

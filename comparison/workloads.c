@@ -1,0 +1,148 @@
+/* workloads NAME ENTRIES > FILE: a fixed bench file to measure on, of a client ready and so many messages.
+ *
+ * one      one frame of one contact a message, no optional fields: down, 98 updates, up
+ * ten      one frame of ten contacts a message, all optional fields: down, 98 updates, up
+ * frames   64 frames of one contact a message, with the contact's sides: down, 62 updates, up
+ * refused  messages like those of ten, each with one fault, most of them in the last contact */
+#include "wire.h"
+
+#include <stdio.h>
+#include <stdlib.h>
+#include <string.h>
+
+enum { STROKE = 100, FRAMES = 64, TEN = 10, MICROSECONDS = 8333 };
+
+/* A contact at one step of a stroke: a line across the screen, with the fields changing a little on the way. */
+static struct wire_contact at_step(unsigned finger, unsigned step, unsigned steps, uint32_t present)
+{
+	const unsigned moved = step == steps - 1 ? step - 1 : step;
+	const int32_t wide = (int32_t)(10 + moved % 20);
+
+	return (struct wire_contact){
+		.id = (uint8_t)finger,
+		.flags = step == 0 ? 0x19 : step == steps - 1 ? 0x04 : 0x1A,
+		.present = present,
+		.x = (int32_t)(150 * finger + 7 * moved),
+		.y = (int32_t)(1000 - 5 * moved),
+		.side = { -wide, -wide - 3, wide, wide + 3 },
+		.orientation = (90 + moved) % 360,
+		.pressure = 20000 + 100 * moved,
+	};
+}
+
+static void write_frame(struct wire *wire, bool first, unsigned fingers, unsigned step, unsigned steps, uint32_t present)
+{
+	wire_unsigned(wire, &wire_u2, fingers);
+	wire_unsigned(wire, &wire_u8, first ? 0 : MICROSECONDS);
+	for (unsigned finger = 0; finger < fingers; finger++) {
+		const struct wire_contact contact = at_step(finger, step, steps, present);
+
+		wire_contact(wire, &contact);
+	}
+}
+
+static void start_touch(struct wire *wire, unsigned frames)
+{
+	wire_start(wire);
+	wire_header(wire, WIRE_TOUCH);
+	wire_unsigned(wire, &wire_u4, 4);
+	wire_unsigned(wire, &wire_u2, frames);
+}
+
+/* A message of one frame, at one step of a stroke. */
+static void make_step(struct wire *wire, bool first, unsigned fingers, unsigned step, uint32_t present)
+{
+	start_touch(wire, 1);
+	write_frame(wire, first, fingers, step, STROKE, present);
+	wire_length(wire);
+}
+
+static void make_one(struct wire *wire, unsigned i)
+{
+	make_step(wire, i == 0, 1, i % STROKE, 0);
+}
+
+static void make_ten(struct wire *wire, unsigned i)
+{
+	make_step(wire, i == 0, TEN, i % STROKE, 7);
+}
+
+static void make_frames(struct wire *wire, unsigned i)
+{
+	start_touch(wire, FRAMES);
+	for (unsigned step = 0; step < FRAMES; step++)
+		write_frame(wire, i == 0 && step == 0, 1, step, FRAMES, 1);
+	wire_length(wire);
+}
+
+/* A message of ten contacts that has a fault in the last of them. */
+static void make_fault_in_contact(struct wire *wire, unsigned i, unsigned kind)
+{
+	struct wire_contact last = at_step(TEN - 1, i % STROKE, STROKE, 7);
+
+	start_touch(wire, 1);
+	write_frame(wire, true, TEN - 1, i % STROKE, STROKE, 7);
+	wire->bytes[WIRE_HEADER_BYTES + 2] = TEN;
+	if (kind == 0)
+		last.pressure = 65001;
+	else if (kind == 1)
+		last.orientation = 360;
+	else if (kind == 2)
+		last.flags = 0x1B;
+	else if (kind == 3)
+		last.present = 8;
+	else
+		wire->fault = WIRE_LONGER;
+	wire_contact(wire, &last);
+	wire_length(wire);
+}
+
+/* Five faults in a contact; then too few bytes, too many, another length than the header says, and an event of the host. */
+static void make_refused(struct wire *wire, unsigned i)
+{
+	const unsigned kind = i % 9;
+
+	if (kind < 5) {
+		make_fault_in_contact(wire, i, kind);
+		return;
+	}
+	make_step(wire, true, TEN, i % STROKE, 7);
+	if (kind == 5)
+		wire->n--;
+	else if (kind == 8)
+		wire->bytes[0] = 4;
+	else
+		wire_byte(wire, 0);
+	if (kind != 7)
+		wire_length(wire);
+}
+
+static const struct workload {
+	const char *name;
+	void (*make)(struct wire *, unsigned);
+} workloads[] = { { "one", make_one }, { "ten", make_ten }, { "frames", make_frames }, { "refused", make_refused } };
+
+static void write_all(const struct workload *workload, unsigned entries)
+{
+	static struct wire wire;
+
+	wire_start(&wire);
+	wire_ready(&wire, 0, 0x00010001, TEN);
+	wire_entry(&wire);
+	for (unsigned i = 0; i < entries; i++) {
+		workload->make(&wire, i);
+		wire_entry(&wire);
+	}
+}
+
+int main(int argc, char **argv)
+{
+	for (size_t i = 0; argc == 3 && i < sizeof workloads / sizeof workloads[0]; i++) {
+		if (strcmp(argv[1], workloads[i].name) != 0)
+			continue;
+		write_all(&workloads[i], (unsigned)strtoul(argv[2], NULL, 10));
+		return fflush(stdout) == 0 && !ferror(stdout) ? 0 : 2;
+	}
+	fputs("usage: workloads one|ten|frames|refused ENTRIES > FILE\n", stderr);
+	return 2;
+}

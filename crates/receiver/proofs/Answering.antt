@@ -8,10 +8,12 @@ use lib.ListN.{length}
 use Rattle.paper.specs.Refusals.{noRoom}
 use Rattle.slices.specs.Writing.{laid, given, left}
 use Rattle.formats.specs.Format.{Got, got, bad}
+use Rattle.contacts.specs.Table.{Table}
 use Rattle.receiver.specs.declared.Receiver.{Receiver}
 use Rattle.receiver.specs.declared.Received.{Received}
+use Rattle.receiver.specs.declared.Turn.{Turn}
 use Rattle.receiver.specs.Receive.{Effect, refusal, draftOf, answerOf, receiverAfter, answerAfter, effect, Receives}
-use Rattle.receiver.specs.Events.{Gives}
+use Rattle.receiver.specs.Events.{turned, Gives}
 
 module _ (r : Receiver) (before : List ℕ) (q : Received) where
   pub gives-refused : (x : Got Effect) (n : ℕ) → x ≡ bad n → q ≡ record { receiver = r; answer = refusal n } → Gives r x before q before
@@ -43,3 +45,7 @@ gives-receives r message before x q after e g =
 
 pub gives-same : (r : Receiver) (x y : Got Effect) (before : List ℕ) (q : Received) (after : List ℕ) → x ≡ y → Gives r y before q after → Gives r x before q after
 gives-same r x y before q after e g = rw e g
+
+-- an answer of the parts is an answer of the receiver that they are
+pub turned-same : (n m : Turn) (t : Table) → n ≡ m → turned n t ≡ turned m t
+turned-same n m t e = ap (λ (x : Turn). turned x t) e

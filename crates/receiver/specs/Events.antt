@@ -14,14 +14,24 @@ use Rattle.house.specs.Fields.{recordBytes}
 use Rattle.messages.specs.Bodies.{ready}
 use Rattle.touch.specs.Touch.{Frame, Touch, touchHeadOf, frame, body}
 use Rattle.touch.specs.declared.TouchHead.{TouchHead}
-use Rattle.contacts.specs.Table.{contacts}
+use Rattle.contacts.specs.Table.{Table, contacts}
 use Rattle.contacts.specs.Machine.{runBytes}
 use Rattle.runs.specs.Runs.{mostRecords}
 use Rattle.runs.specs.declared.Run.{Run}
 use Rattle.receiver.specs.declared.Receiver.{Receiver}
 use Rattle.receiver.specs.declared.Answer.{Answer}
 use Rattle.receiver.specs.declared.Received.{Received}
+use Rattle.receiver.specs.declared.Marks.{Marks}
+use Rattle.receiver.specs.declared.Turn.{Turn}
 use Rattle.receiver.specs.Receive.{Effect, rulesOf, machineOf, off, judged, framesFor, settled, touched, dismissedBy, draftOf, answerOf, receiverAfter, answerAfter}
+
+-- ---- a receiver as its parts: the marks, and the contacts where they stand
+
+abbrev pub held : Marks → Table → Receiver
+held m t = record { ready = m .ready; begun = m .begun; ignoring = m .ignoring; settings = m .settings; states = t .states; xs = t .xs; ys = t .ys }
+
+abbrev pub turned : Turn → Table → Received
+turned n t = record { receiver = held (n .marks) t; answer = n .answer }
 
 -- ---- settings and marks
 

@@ -1,7 +1,7 @@
 // Refusals, and the events that have no frames.
 use crate::Answer;
-use crate::Received;
-use crate::Receiver;
+use crate::Marks;
+use crate::Turn;
 use messages::Header;
 use messages::ReadDismiss;
 use messages::ReadReady;
@@ -11,12 +11,14 @@ ghost use Prim.Native.Nat.{ℕ};
 ghost use mathlib.Core.Path.{_≡_};
 ghost use mathlib.Core.Bool.{true};
 ghost use mathlib.Core.List.{List};
-ghost use Rattle.receiver.specs.Receive.{off, effect, settled, refusal};
-ghost use Rattle.receiver.specs.Events.{Gives, readyEffect, dismissEffect};
+ghost use Rattle.contacts.specs.Table.{Table};
+ghost use Rattle.contacts.specs.Ruling.{tableOf};
+ghost use Rattle.receiver.specs.Receive.{off, effect, refusal};
+ghost use Rattle.receiver.specs.Events.{held, turned, Gives, readyEffect, dismissEffect};
 
 // The answer where no frame was run.
-fn quiet(receiver: Receiver, refusal: u8, records: usize) -> Received
-    ensures { λ r. ⌜ r ≡ record { receiver = receiver; answer = record { refusal = refusal; injected = 0; ignored = 0; cancelled = 0; time = record { 0 = 0 }; records = records } } ⌝ }
+fn quiet(marks: Marks, refusal: u8, records: usize) -> Turn
+    ensures { λ r. ⌜ r ≡ record { marks = marks; answer = record { refusal = refusal; injected = 0; ignored = 0; cancelled = 0; time = record { 0 = 0 }; records = records } } ⌝ }
 {
     let answer = Answer {
         refusal: refusal,
@@ -26,65 +28,67 @@ fn quiet(receiver: Receiver, refusal: u8, records: usize) -> Received
         time: Milliseconds(0),
         records: records,
     };
-    Received {
-        receiver: receiver,
+    Turn {
+        marks: marks,
         answer: answer,
     }
 }
 
 // A refusal answers its number with all other fields 0, and the receiver stays as it was.
-pub(crate) fn refuse(receiver: Receiver, e: u8) -> Received
-    ensures { λ r. ⌜ r ≡ record { receiver = receiver; answer = refusal e } ⌝ }
+pub(crate) fn refuse(marks: Marks, e: u8) -> Turn
+    ensures { λ r. ⌜ r ≡ record { marks = marks; answer = refusal e } ⌝ }
 {
-    quiet(receiver, e, 0)
+    quiet(marks, e, 0)
 }
 
 // The settings, which a receiver takes once.
-fn settle(receiver: Receiver, settings: Ready) -> Receiver
-    ensures { λ r. ⌜ r ≡ settled receiver settings .receiver ⌝ }
+fn settle(marks: Marks, settings: Ready) -> Marks
+    ensures { λ r. ⌜ r ≡ record { ready = 1; begun = marks .begun; ignoring = marks .ignoring; settings = settings } ⌝ }
 {
-    let mut next = receiver;
-    next.ready = 1;
-    next.settings = settings;
-    next
+    Marks {
+        ready: 1,
+        begun: marks.begun,
+        ignoring: marks.ignoring,
+        settings: settings,
+    }
 }
 
 // The body of a client ready.
-fn receive_settings(receiver: Receiver, body: &[u8]) -> Received
-    ensures { λ r. ⌜ ((d : List ℕ) → Gives receiver (readyEffect receiver (now (body .entry))) d r d) ⌝ }
+fn receive_settings(marks: Marks, body: &[u8]) -> Turn
+    ensures { λ r. ⌜ ((t : Table) (d : List ℕ) → Gives (held marks t) (readyEffect (held marks t) (now (body .entry))) d (turned r t) d) ⌝ }
 {
     match messages::read_ready_body(body) {
-        ReadReady::Refused(e) => refuse(receiver, e),
-        ReadReady::Ready(settings) => quiet(settle(receiver, settings), 0, 0),
+        ReadReady::Refused(e) => refuse(marks, e),
+        ReadReady::Ready(settings) => quiet(settle(marks, settings), 0, 0),
     }
 }
 
 // Client ready, all that an unready receiver takes.
-pub(crate) fn receive_ready(receiver: Receiver, message: &[u8]) -> Received
-    ensures { λ r. ⌜ (off (receiver .ready) ≡ true → (d : List ℕ) → Gives receiver (effect receiver (now (message .entry))) d r d) ⌝ }
+pub(crate) fn receive_ready(marks: Marks, message: &[u8]) -> Turn
+    ensures { λ r. ⌜ (off (marks .ready) ≡ true → (t : Table) (d : List ℕ) → Gives (held marks t) (effect (held marks t) (now (message .entry))) d (turned r t) d) ⌝ }
 {
     match messages::read_header(message, messages::CLIENT_READY, messages::CLIENT_READY) {
-        Header::Refused(e) => refuse(receiver, e),
-        Header::Event(_) => receive_settings(receiver, &message[messages::HEADER_BYTES..]),
+        Header::Refused(e) => refuse(marks, e),
+        Header::Event(_) => receive_settings(marks, &message[messages::HEADER_BYTES..]),
     }
 }
 
 // Dismiss: a hovering contact goes out of range.
-pub(crate) fn receive_dismiss(receiver: Receiver, body: &[u8], output: &mut [u8]) -> Received
-    ensures { λ r. ⌜ Gives receiver (dismissEffect receiver (now (body .entry))) (now (output .entry)) r (now (output .exit)) ⌝ }
+pub(crate) fn receive_dismiss(
+    marks: Marks,
+    body: &[u8],
+    output: &mut [u8],
+    states: &mut [u8; 256],
+    xs: &mut [i32; 256],
+    ys: &mut [i32; 256],
+) -> Turn
+    ensures { λ r. ⌜ Gives (held marks (tableOf (now (states .entry)) (now (xs .entry)) (now (ys .entry)))) (dismissEffect (held marks (tableOf (now (states .entry)) (now (xs .entry)) (now (ys .entry)))) (now (body .entry))) (now (output .entry)) (turned r (tableOf (now (states .exit)) (now (xs .exit)) (now (ys .exit)))) (now (output .exit)) ⌝ }
 {
     match messages::read_dismiss_body(body) {
-        ReadDismiss::Refused(e) => refuse(receiver, e),
+        ReadDismiss::Refused(e) => refuse(marks, e),
         ReadDismiss::Id(id) => {
-            let mut next = receiver;
-            let mut states = receiver.states;
-            let mut xs = receiver.xs;
-            let mut ys = receiver.ys;
-            let written = moves::dismiss(output, id, &mut states, &mut xs, &mut ys);
-            next.states = states;
-            next.xs = xs;
-            next.ys = ys;
-            quiet(next, written.refusal, written.bytes / house::RECORD_BYTES)
+            let written = moves::dismiss(output, id, states, xs, ys);
+            quiet(marks, written.refusal, written.bytes / house::RECORD_BYTES)
         }
     }
 }

@@ -1,7 +1,7 @@
 // Touch messages: judged whole, run dry where their records might not fit, and then run.
 use crate::Answer;
-use crate::Received;
-use crate::Receiver;
+use crate::Marks;
+use crate::Turn;
 use crate::events::refuse;
 use paper::Milliseconds;
 use runs::Run;
@@ -9,9 +9,9 @@ use touch::CheckedBody;
 use touch::TouchHead;
 ghost use mathlib.Core.Path.{_≡_};
 ghost use mathlib.Core.Bool.{cond, not};
-ghost use Rattle.contacts.specs.Ruling.{Counted};
+ghost use Rattle.contacts.specs.Ruling.{tableOf, Counted};
 ghost use Rattle.receiver.specs.Receive.{mark};
-ghost use Rattle.receiver.specs.Events.{untimedBy, judgedBy, begunBy, answerTo, Gives, touchEffect, Tallies, Rooms, Carries};
+ghost use Rattle.receiver.specs.Events.{held, turned, untimedBy, judgedBy, begunBy, answerTo, Gives, touchEffect, Tallies, Rooms, Carries};
 
 // How many contacts there are: an id is a byte.
 const CONTACTS: usize = 256;
@@ -84,96 +84,124 @@ fn answer_to(run: Run, time: Milliseconds) -> Answer
     }
 }
 
-// How many records the frames give; nothing is written.
-fn tally(receiver: Receiver, n: u8, frames: &[u8], output: &mut [u8]) -> usize
-    ensures { λ r. ⌜ Tallies receiver n (now (frames .entry)) r (now (output .entry)) (now (output .exit)) ⌝ }
+// How many records the frames give, by a run over a copy of the contacts; nothing is written.
+fn tally(
+    marks: Marks,
+    n: u8,
+    frames: &[u8],
+    output: &mut [u8],
+    states: &[u8; 256],
+    xs: &[i32; 256],
+    ys: &[i32; 256],
+) -> usize
+    ensures { λ r. ⌜ Tallies (held marks (tableOf (now (states .entry)) (now (xs .entry)) (now (ys .entry)))) n (now (frames .entry)) r (now (output .entry)) (now (output .exit)) ⌝ }
 {
-    let untimed = is_untimed(receiver.settings.flags);
-    let mut states = receiver.states;
-    let active = active_in(states);
-    let mut xs = receiver.xs;
-    let mut ys = receiver.ys;
+    let settings = marks.settings;
+    let untimed = is_untimed(settings.flags);
+    let mut some_states = *states;
+    let active = active_in(some_states);
+    let mut some_xs = *xs;
+    let mut some_ys = *ys;
     let run = runs::run_frames(
         output,
         false,
         frames,
         n,
         untimed,
-        receiver.settings.most,
-        receiver.ignoring == 0,
+        settings.most,
+        marks.ignoring == 0,
         active,
-        &mut states,
-        &mut xs,
-        &mut ys,
+        &mut some_states,
+        &mut some_xs,
+        &mut some_ys,
     );
     run.records
 }
 
 // Whether the output has room for the records of the frames in a body of so many bytes; nothing is written. Two bytes of a body give
 // at most one record, beside a cancel for each contact: where the output has room for all these, the frames need not be counted.
-fn has_room(receiver: Receiver, n: u8, frames: &[u8], bytes: usize, output: &mut [u8]) -> bool
-    ensures { λ r. ⌜ Rooms receiver n (now (frames .entry)) bytes r (now (output .entry)) (now (output .exit)) ⌝ }
+fn has_room(
+    marks: Marks,
+    n: u8,
+    frames: &[u8],
+    bytes: usize,
+    output: &mut [u8],
+    states: &[u8; 256],
+    xs: &[i32; 256],
+    ys: &[i32; 256],
+) -> bool
+    ensures { λ r. ⌜ Rooms (held marks (tableOf (now (states .entry)) (now (xs .entry)) (now (ys .entry)))) n (now (frames .entry)) bytes r (now (output .entry)) (now (output .exit)) ⌝ }
 {
     if bytes / 2 + CONTACTS <= output.len() / house::RECORD_BYTES {
         return true;
     }
-    let records = tally(receiver, n, frames, output);
+    let records = tally(marks, n, frames, output, states, xs, ys);
     house::RECORD_BYTES * records <= output.len()
 }
 
 // The frames of a message carried out: their records, the receiver after them, and the answer.
-fn carry_out(receiver: Receiver, head: TouchHead, frames: &[u8], output: &mut [u8]) -> Received
-    ensures { λ r. ⌜ Carries receiver head (now (frames .entry)) (now (output .entry)) r (now (output .exit)) ⌝ }
+fn carry_out(
+    marks: Marks,
+    head: TouchHead,
+    frames: &[u8],
+    output: &mut [u8],
+    states: &mut [u8; 256],
+    xs: &mut [i32; 256],
+    ys: &mut [i32; 256],
+) -> Turn
+    ensures { λ r. ⌜ Carries (held marks (tableOf (now (states .entry)) (now (xs .entry)) (now (ys .entry)))) head (now (frames .entry)) (now (output .entry)) (turned r (tableOf (now (states .exit)) (now (xs .exit)) (now (ys .exit)))) (now (output .exit)) ⌝ }
 {
-    let untimed = is_untimed(receiver.settings.flags);
-    let mut states = receiver.states;
-    let active = active_in(states);
-    let mut xs = receiver.xs;
-    let mut ys = receiver.ys;
+    let settings = marks.settings;
+    let untimed = is_untimed(settings.flags);
+    let active = active_in(*states);
     let run = runs::run_frames(
         output,
         true,
         frames,
         head.frames,
         untimed,
-        receiver.settings.most,
-        receiver.ignoring == 0,
+        settings.most,
+        marks.ignoring == 0,
         active,
-        &mut states,
-        &mut xs,
-        &mut ys,
+        states,
+        xs,
+        ys,
     );
-    let begun = begun_after(receiver.begun, head.frames);
-    let ignoring = ignoring_in(run.running);
     let time = head.time;
     let answer = answer_to(run, time_for(time, untimed));
-    let settings = receiver.settings;
-    Received {
-        receiver: Receiver {
-            ready: receiver.ready,
-            begun: begun,
-            ignoring: ignoring,
-            settings: settings,
-            states: states,
-            xs: xs,
-            ys: ys,
-        },
+    let after = Marks {
+        ready: marks.ready,
+        begun: begun_after(marks.begun, head.frames),
+        ignoring: ignoring_in(run.running),
+        settings: settings,
+    };
+    Turn {
+        marks: after,
         answer: answer,
     }
 }
 
 // A touch message's body.
-pub(crate) fn receive_touch(receiver: Receiver, body: &[u8], output: &mut [u8]) -> Received
-    ensures { λ r. ⌜ Gives receiver (touchEffect receiver (now (body .entry))) (now (output .entry)) r (now (output .exit)) ⌝ }
+pub(crate) fn receive_touch(
+    marks: Marks,
+    body: &[u8],
+    output: &mut [u8],
+    states: &mut [u8; 256],
+    xs: &mut [i32; 256],
+    ys: &mut [i32; 256],
+) -> Turn
+    ensures { λ r. ⌜ Gives (held marks (tableOf (now (states .entry)) (now (xs .entry)) (now (ys .entry)))) (touchEffect (held marks (tableOf (now (states .entry)) (now (xs .entry)) (now (ys .entry)))) (now (body .entry))) (now (output .entry)) (turned r (tableOf (now (states .exit)) (now (xs .exit)) (now (ys .exit)))) (now (output .exit)) ⌝ }
 {
-    let judged = is_judged(receiver.settings.flags, receiver.begun);
+    let settings = marks.settings;
+    let judged = is_judged(settings.flags, marks.begun);
     let checked = touch::check_body(body, judged);
     let CheckedBody::Body(head, at) = checked else {
-        return refuse(receiver, checked.refusal());
+        return refuse(marks, checked.refusal());
     };
     let frames = &body[at..];
-    if has_room(receiver, head.frames, frames, body.len(), output) {
-        return carry_out(receiver, head, frames, output);
+    let bytes = body.len();
+    if has_room(marks, head.frames, frames, bytes, output, states, xs, ys) {
+        return carry_out(marks, head, frames, output, states, xs, ys);
     }
-    refuse(receiver, paper::NO_ROOM)
+    refuse(marks, paper::NO_ROOM)
 }

@@ -6,7 +6,9 @@ use messages::Header;
 use messages::Ready;
 use paper::Milliseconds;
 ghost use mathlib.Core.Path.{_≡_};
+ghost use Rattle.contacts.specs.Ruling.{tableOf};
 ghost use Rattle.receiver.specs.Receive as spec;
+ghost use Rattle.receiver.specs.Events.{held, turned, Gives};
 
 // One connection's receiver. Each mark is off where it is 0; a fresh receiver is all zeros.
 #[repr(C)]
@@ -41,6 +43,20 @@ pub struct Received {
     pub answer: Answer,
 }
 
+// A receiver beside its contacts.
+pub(crate) struct Marks {
+    pub ready: u8,
+    pub begun: u8,
+    pub ignoring: u8,
+    pub settings: Ready,
+}
+
+// The marks after a message, and the answer.
+pub(crate) struct Turn {
+    pub marks: Marks,
+    pub answer: Answer,
+}
+
 // A receiver that has accepted nothing.
 pub fn fresh() -> Receiver
     ensures { λ r. ⌜ r ≡ spec.fresh ⌝ }
@@ -60,21 +76,60 @@ pub fn fresh() -> Receiver
     }
 }
 
-// A message, judged and carried out, or refused with nothing changed.
-pub fn receive(receiver: Receiver, message: &[u8], output: &mut [u8]) -> Received
-    ensures { λ r. ⌜ spec.Receives receiver (now (message .entry)) (now (output .entry)) (r .receiver) (r .answer) (now (output .exit)) ⌝ }
+// What becomes of a message: the marks after it, and the answer; the contacts are changed where they stand.
+fn take(
+    marks: Marks,
+    message: &[u8],
+    output: &mut [u8],
+    states: &mut [u8; 256],
+    xs: &mut [i32; 256],
+    ys: &mut [i32; 256],
+) -> Turn
+    ensures { λ r. ⌜ Gives (held marks (tableOf (now (states .entry)) (now (xs .entry)) (now (ys .entry)))) (spec.effect (held marks (tableOf (now (states .entry)) (now (xs .entry)) (now (ys .entry)))) (now (message .entry))) (now (output .entry)) (turned r (tableOf (now (states .exit)) (now (xs .exit)) (now (ys .exit)))) (now (output .exit)) ⌝ }
 {
-    if receiver.ready == 0 {
-        return events::receive_ready(receiver, message);
+    if marks.ready == 0 {
+        return events::receive_ready(marks, message);
     }
     match messages::read_header(message, messages::TOUCH, messages::DISMISS) {
-        Header::Refused(e) => events::refuse(receiver, e),
+        Header::Refused(e) => events::refuse(marks, e),
         Header::Event(e) => {
             let body = &message[messages::HEADER_BYTES..];
             if e == messages::TOUCH {
-                return frames::receive_touch(receiver, body, output);
+                return frames::receive_touch(marks, body, output, states, xs, ys);
             }
-            events::receive_dismiss(receiver, body, output)
+            events::receive_dismiss(marks, body, output, states, xs, ys)
         }
+    }
+}
+
+// A message, judged and carried out, or refused with nothing changed. The contacts are copied once, and lent to all that follows.
+pub fn receive(receiver: Receiver, message: &[u8], output: &mut [u8]) -> Received
+    ensures { λ r. ⌜ spec.Receives receiver (now (message .entry)) (now (output .entry)) (r .receiver) (r .answer) (now (output .exit)) ⌝ }
+{
+    let mut states = receiver.states;
+    let mut xs = receiver.xs;
+    let mut ys = receiver.ys;
+    let settings = receiver.settings;
+    let marks = Marks {
+        ready: receiver.ready,
+        begun: receiver.begun,
+        ignoring: receiver.ignoring,
+        settings: settings,
+    };
+    let turn = take(marks, message, output, &mut states, &mut xs, &mut ys);
+    let after = turn.marks;
+    let settings_after = after.settings;
+    let answer = turn.answer;
+    Received {
+        receiver: Receiver {
+            ready: after.ready,
+            begun: after.begun,
+            ignoring: after.ignoring,
+            settings: settings_after,
+            states: states,
+            xs: xs,
+            ys: ys,
+        },
+        answer: answer,
     }
 }

@@ -1,6 +1,7 @@
 -- `receiver::events::receive_dismiss` meets its contract.
 -- Assumes nothing.
 use borrow.Author.Needs.{needs}
+use Rattle.receiver.proofs.Answering.{turned-same}
 use Rattle.receiver.proofs.Bodies.{dismiss-refused, dismiss-taken}
 use Rattle.receiver.proofs.events.receive_dismiss.Statement.{statement}
 use Rattle.receiver.proofs.events.receive_dismiss.Tie as tie
@@ -26,7 +27,7 @@ quiet-requires c κs = search needs
 returns : tie.Need-returns
 returns c =
     let e = c .before .before in
-    dismiss-refused _ _ _ (e .before .before .read-dismiss-body .ensures) _ _ _ (e .e .given .1) (c .refuse .ensures)
+    dismiss-refused _ _ _ (e .before .before .read-dismiss-body .ensures) _ _ _ (e .e .given .1) (turned-same _ _ _ (c .refuse .ensures))
 
 same-length : tie.Need-same-length
 same-length c = search needs
@@ -34,8 +35,8 @@ same-length c = search needs
 returns-2 : tie.Need-returns-2
 returns-2 c =
     let m = c .before .before .before .before in
-    let e = m .before .before .before .before .before .before .before .before .before in
-    dismiss-taken _ _ _ (e .before .before .read-dismiss-body .ensures) _ _ _ _ _ _ (e .id .given .1) (m .dismiss .ensures) (c .quiet .ensures)
+    let e = m .before .before .before .before .before .before in
+    dismiss-taken _ _ _ (e .before .before .read-dismiss-body .ensures) _ _ _ _ _ _ (e .id .given .1) (m .dismiss .ensures) (turned-same _ _ _ (c .quiet .ensures))
 
 pub receive-dismiss-spec : {M : Type 1} → statement M
 receive-dismiss-spec =

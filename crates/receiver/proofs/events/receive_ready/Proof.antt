@@ -3,7 +3,7 @@
 use borrow.Author.Needs.{needs}
 use native.Mathlib.Omega.{arith}
 use Rattle.formats.proofs.Steps.{tail}
-use Rattle.receiver.proofs.Answering.{gives-refused, gives-same}
+use Rattle.receiver.proofs.Answering.{gives-refused, gives-same, turned-same}
 use Rattle.receiver.proofs.Bodies.{unready-refused, unready-event, header-long}
 use Rattle.receiver.proofs.events.receive_ready.Statement.{statement}
 use Rattle.receiver.proofs.events.receive_ready.Tie as tie
@@ -33,14 +33,14 @@ receive-settings-requires : tie.Need-receive-settings-requires
 receive-settings-requires c κs = search needs
 
 returns : tie.Need-returns
-returns c o d =
+returns c o t d =
     let e = c .before .before in
-    gives-refused _ d _ _ _ (unready-refused _ _ _ o (e .before .before .read-header .ensures) _ (e .e .given .1)) (c .refuse .ensures)
+    gives-refused _ d _ _ _ (unready-refused _ _ _ o (e .before .before .read-header .ensures) _ (e .e .given .1)) (turned-same _ _ t (c .refuse .ensures))
 
 returns-2 : tie.Need-returns-2
-returns-2 c o d =
+returns-2 c o t d =
     let e = c .before .before in
-    gives-same _ _ _ d _ d (unready-event _ _ _ o (e .before .before .read-header .ensures) _ (e .enum-told .given .1)) (rw (tail (e .before .before .before .before .args .message .now) 6) at (c .receive-settings .ensures d))
+    gives-same _ _ _ d _ d (unready-event _ _ _ o (e .before .before .read-header .ensures) _ (e .enum-told .given .1)) (rw (tail (e .before .before .before .before .args .message .now) 6) at (c .receive-settings .ensures t d))
 
 pub receive-ready-spec : {M : Type 1} → statement M
 receive-ready-spec =

@@ -14,30 +14,29 @@ active-in-requires c κs = search needs
 run-frames-requires : tie.Need-run-frames-requires
 run-frames-requires c κs = search needs
 
-begun-after-requires : tie.Need-begun-after-requires
-begun-after-requires c κs = search needs
-
-ignoring-in-requires : tie.Need-ignoring-in-requires
-ignoring-in-requires c κs = search needs
-
 time-for-requires : tie.Need-time-for-requires
 time-for-requires c κs = search needs
 
 answer-to-requires : tie.Need-answer-to-requires
 answer-to-requires c κs = search needs
 
+begun-after-requires : tie.Need-begun-after-requires
+begun-after-requires c κs = search needs
+
+ignoring-in-requires : tie.Need-ignoring-in-requires
+ignoring-in-requires c κs = search needs
+
 same-length : tie.Need-same-length
 same-length c = search needs
 
 returns : tie.Need-returns
 returns c =
-    let w = c .before in
+    let b = c .before in
+    let w = b .before in
     let t = w .before in
-    let i = t .before .before in
-    let b = i .before in
-    let m = b .before .before .before in
-    let a = m .before .before .before .before .before .before .before .before in
-    carries _ _ _ (a .before .before .is-untimed .ensures) _ (a .active-in .ensures) _ _ _ _ _ (m .run-frames .ensures) _ _ _ _ (b .begun-after .ensures) (i .ignoring-in .ensures) (t .time-for .ensures) (w .answer-to .ensures)
+    let m = t .before .before .before .before in
+    let a = m .before .before .before .before .before .before in
+    carries _ _ _ (a .before .before .is-untimed .ensures) _ (a .active-in .ensures) _ _ _ _ _ (m .run-frames .ensures) _ _ _ _ (b .begun-after .ensures) (c .ignoring-in .ensures) (t .time-for .ensures) (w .answer-to .ensures)
 
 pub carry-out-spec : {M : Type 1} → statement M
 carry-out-spec =
@@ -46,9 +45,9 @@ carry-out-spec =
     is-untimed-requires
     active-in-requires
     run-frames-requires
-    begun-after-requires
-    ignoring-in-requires
     time-for-requires
     answer-to-requires
+    begun-after-requires
+    ignoring-in-requires
     same-length
     returns)

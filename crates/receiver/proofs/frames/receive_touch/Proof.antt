@@ -4,6 +4,7 @@ use borrow.Author.Needs.{needs}
 use native.Mathlib.Omega.{arith}
 use Rattle.touch.specs.Answer.{Checks}
 use Rattle.touch.specs.declared.CheckedBody.the-variants as CheckedBody
+use Rattle.receiver.proofs.Answering.{turned-same}
 use Rattle.receiver.proofs.Touching.{touch-refused, touch-none, touch-done}
 use Rattle.receiver.proofs.frames.receive_touch.Statement.{statement}
 use Rattle.receiver.proofs.frames.receive_touch.Tie as tie
@@ -30,12 +31,12 @@ returns : tie.Need-returns
 returns c =
     let e = c .before .before in
     let k = e .before .before in
-    touch-refused _ _ _ (k .before .is-judged .ensures) _ _ _ _ _ (k .check-body .ensures) (e .enum-told .given .1) (c .before .refusal .ensures) (c .refuse .ensures)
+    touch-refused _ _ _ (k .before .is-judged .ensures) _ _ _ _ _ (k .check-body .ensures) (e .enum-told .given .1) (c .before .refusal .ensures) (turned-same _ _ _ (c .refuse .ensures))
 
 -- the body that was checked
 body-is : (c : tie.After-known-told) →
     let k = c .before .before .before in
-    Checks (k .before .is-judged .result) (k .before .before .before .before .args .body .now) (CheckedBody.Body (c .before .checked .given .0 .0) (c .before .checked .given .0 .1 .0))
+    Checks (k .before .is-judged .result) (k .before .before .before .before .before .args .body .now) (CheckedBody.Body (c .before .checked .given .0 .0) (c .before .checked .given .0 .1 .0))
 body-is c = rw (c .before .checked .given .1) at (c .before .before .before .check-body .ensures)
 
 sub-frames : tie.Need-sub-frames
@@ -59,9 +60,9 @@ same-length c = search needs
 returns-2 : tie.Need-returns-2
 returns-2 c =
     let o = c .before .before in
-    let i = o .before .before in
+    let i = o .before .before .before .before .before in
     let t = i .before .before .before in
-    let k = t .before .before .before in
+    let k = t .before .before .before .before .before .before in
     touch-done _ _ _ (k .before .before .before .before .is-judged .ensures) _ _ _ _ (body-is k) _ _ (t .has-room .ensures) _ (i .if1 .taken) (o .carry-out .ensures)
 
 refuse-requires-2 : tie.Need-refuse-requires-2
@@ -74,8 +75,8 @@ returns-3 : tie.Need-returns-3
 returns-3 c =
     let i = c .before in
     let t = i .before .before .before in
-    let k = t .before .before .before in
-    touch-none _ _ _ (k .before .before .before .before .is-judged .ensures) _ _ _ _ (body-is k) _ _ (t .has-room .ensures) (i .if1 .left) (c .refuse2 .ensures)
+    let k = t .before .before .before .before .before .before in
+    touch-none _ _ _ (k .before .before .before .before .is-judged .ensures) _ _ _ _ (body-is k) _ _ (t .has-room .ensures) (i .if1 .left) (turned-same _ _ _ (c .refuse2 .ensures))
 
 pub receive-touch-spec : {M : Type 1} → statement M
 receive-touch-spec =

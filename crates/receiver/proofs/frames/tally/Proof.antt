@@ -20,8 +20,8 @@ same-length c = search needs
 returns : tie.Need-returns
 returns c =
     let m = c .before .before in
-    let a = m .before .before .before .before .before .before .before in
-    tallies _ _ _ (a .before .before .before .is-untimed .ensures) _ (a .before .active-in .ensures) _ _ _ _ _ (m .run-frames .ensures)
+    let a = m .before .before .before .before .before .before .before .before in
+    tallies _ _ _ (a .before .before .is-untimed .ensures) _ (a .active-in .ensures) _ _ _ _ _ (m .run-frames .ensures)
 
 pub tally-spec : {M : Type 1} → statement M
 tally-spec =

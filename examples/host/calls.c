@@ -1,0 +1,115 @@
+/* Every call of the header once more from C: that arguments, answers and fields arrive where the header says they are. What the calls do is
+ * proved; this is for the boundary. Ends with 'N passed, M failed'. */
+#include "kangirlo.h"
+
+#include <stdio.h>
+#include <string.h>
+
+static int passed, failed;
+
+static void expect(int holds, const char *what)
+{
+	passed += holds;
+	failed += !holds;
+	if (!holds)
+		printf("fails: %s\n", what);
+}
+
+#define EXPECT(test) expect(test, #test)
+
+/* The four messages of document 01's example. */
+static const uint8_t ready[] = {2, 0, 16, 0, 0, 0, 0, 0, 0, 0, 1, 0, 1, 0, 10, 0};
+static const uint8_t down[] = {3, 0, 17, 0, 0, 0, 0, 1, 1, 0, 1, 0, 0x40, 0x64, 0x40, 0x32, 0x19};
+static const uint8_t up[] = {3, 0, 17, 0, 0, 0, 0, 1, 1, 0, 1, 0, 0x40, 0x64, 0x40, 0x32, 0x04};
+static const uint8_t update[] = {3, 0, 17, 0, 0, 0, 0, 1, 1, 0, 1, 0, 0x40, 0x64, 0x40, 0x32, 0x1A};
+
+/* At 70 ms, 40 us after the frame before: contact 3 hovers at -50, 900, with sides -5, 70, 5, -70, orientation 300, pressure 40000. */
+static const uint8_t full[] = {3,    0,    30,   0,    0,    0,    0x40, 0x46, 0x01, 0x01, 0x20, 0x28, 0x03, 0x07, 0x60,
+                               0x32, 0x43, 0x84, 0x0A, 0x45, 0x80, 0x46, 0x05, 0xC0, 0x46, 0x41, 0x2C, 0x80, 0x9C, 0x40};
+
+static uint8_t output[KANGIRLO_OUTPUT_MOST];
+
+static int answers(struct kangirlo_answer a, int refusal, int injected, int cancelled, size_t records)
+{
+	return a.refusal == refusal && a.injected == injected && a.ignored == 0 && a.cancelled == cancelled && a.time.value == 0
+	       && a.records == records;
+}
+
+static struct kangirlo_record record_at(size_t i)
+{
+	return kangirlo_read_record(output + i * KANGIRLO_RECORD_BYTES, KANGIRLO_RECORD_BYTES);
+}
+
+static void test_receiver(void)
+{
+	static const struct kangirlo_receiver zeros;
+	struct kangirlo_receiver r = kangirlo_fresh();
+
+	EXPECT(memcmp(r.states, zeros.states, sizeof r.states) == 0 && memcmp(r.xs, zeros.xs, sizeof r.xs) == 0);
+	EXPECT(memcmp(r.ys, zeros.ys, sizeof r.ys) == 0 && r.ready == 0 && r.begun == 0 && r.ignoring == 0);
+	EXPECT(r.settings.flags == 0 && r.settings.version == 0 && r.settings.most == 0);
+	EXPECT(answers(kangirlo_receive(&r, down, sizeof down, output, sizeof output), KANGIRLO_UNEXPECTED, 0, 0, 0));
+	EXPECT(answers(kangirlo_receive(&r, ready, sizeof ready, output, sizeof output), KANGIRLO_TAKEN, 0, 0, 0));
+	EXPECT(r.ready == 1 && r.settings.flags == 0 && r.settings.version == 0x00010001 && r.settings.most == 10);
+	EXPECT(answers(kangirlo_receive(&r, down, sizeof down, output, 41), KANGIRLO_NO_ROOM, 0, 0, 0));
+	EXPECT(r.begun == 0 && r.states[1] == 0);
+	EXPECT(answers(kangirlo_receive(&r, down, sizeof down, output, 42), KANGIRLO_TAKEN, 1, 0, 2));
+	EXPECT(r.begun == 1 && r.states[1] == 2 && r.xs[1] == 100 && r.ys[1] == 50);
+	EXPECT(record_at(0).kind == KANGIRLO_HEAD && record_at(0).count == 1);
+	EXPECT(record_at(1).kind == KANGIRLO_CONTACT && record_at(1).flags == 0x19 && record_at(1).id == 1 && record_at(1).x == 100);
+	EXPECT(answers(kangirlo_receive(&r, up, sizeof up, output, sizeof output), KANGIRLO_TAKEN, 1, 0, 2));
+	EXPECT(r.states[1] == 0 && r.xs[1] == 0 && r.ys[1] == 0 && r.ignoring == 0);
+	EXPECT(answers(kangirlo_receive(&r, update, sizeof update, output, sizeof output), KANGIRLO_TAKEN, 0, 1, 0));
+	EXPECT(r.ignoring == 1);
+	EXPECT(answers(kangirlo_receive(&r, ready, 0, output, sizeof output), KANGIRLO_SHORT, 0, 0, 0));
+}
+
+static void test_plain(void)
+{
+	struct kangirlo_plain_answer a = kangirlo_plain(full, sizeof full, output, sizeof output);
+	struct kangirlo_record head = record_at(0), c = record_at(1);
+	struct kangirlo_written w;
+	uint8_t again[sizeof full];
+
+	EXPECT(a.refusal == KANGIRLO_TAKEN && a.time.value == 70 && a.records == 2);
+	EXPECT(head.refusal == KANGIRLO_TAKEN && head.kind == KANGIRLO_HEAD && head.count == 1 && head.offset.value == 40 && head.id == 0);
+	EXPECT(c.refusal == KANGIRLO_TAKEN && c.kind == KANGIRLO_CONTACT && c.count == 0 && c.offset.value == 0);
+	EXPECT(c.flags == 0x0A && c.present == 7 && c.id == 3 && c.x == -50 && c.y == 900);
+	EXPECT(c.left == -5 && c.top == 70 && c.right == 5 && c.bottom == -70 && c.orientation == 300 && c.pressure == 40000);
+	w = kangirlo_write_touch(again, sizeof again, a.time, output, a.records * KANGIRLO_RECORD_BYTES);
+	EXPECT(w.refusal == KANGIRLO_TAKEN && w.bytes == sizeof full && memcmp(again, full, sizeof full) == 0);
+	EXPECT(kangirlo_write_touch(again, sizeof again - 1, a.time, output, 42).refusal == KANGIRLO_NO_ROOM);
+	EXPECT(kangirlo_plain(full, sizeof full - 1, output, sizeof output).refusal == KANGIRLO_BAD_LENGTH);
+	output[20] = 1; /* an unused bit of the head */
+	EXPECT(record_at(0).refusal == KANGIRLO_BAD_RECORD && record_at(0).count == 0);
+	EXPECT(kangirlo_read_record(output, KANGIRLO_RECORD_BYTES - 1).refusal == KANGIRLO_BAD_RECORD);
+}
+
+static int wrote(struct kangirlo_written w, const uint8_t *bytes, size_t count)
+{
+	return w.refusal == KANGIRLO_TAKEN && w.bytes == count && memcmp(output, bytes, count) == 0;
+}
+
+static void test_writers(void)
+{
+	static const uint8_t server[] = {1, 0, 10, 0, 0, 0, 0, 0, 1, 0}, client[] = {2, 0, 16, 0, 0, 0, 3, 0, 0, 0, 1, 0, 1, 0, 0x34, 0x12};
+	static const uint8_t suspend[] = {4, 0, 6, 0, 0, 0}, resume[] = {5, 0, 6, 0, 0, 0}, dismiss[] = {6, 0, 7, 0, 0, 0, 200};
+
+	EXPECT(wrote(kangirlo_write_server_ready(output, sizeof output, 0x00010000), server, sizeof server));
+	EXPECT(kangirlo_write_server_ready(output, sizeof output, 0x00010002).refusal == KANGIRLO_BAD_FIELD);
+	EXPECT(wrote(kangirlo_write_client_ready(output, sizeof output, 3, 0x00010001, 0x1234), client, sizeof client));
+	EXPECT(kangirlo_write_client_ready(output, sizeof output, 4, 0x00010001, 0).refusal == KANGIRLO_BAD_FIELD);
+	EXPECT(wrote(kangirlo_write_suspend(output, sizeof output), suspend, sizeof suspend));
+	EXPECT(wrote(kangirlo_write_resume(output, sizeof output), resume, sizeof resume));
+	EXPECT(wrote(kangirlo_write_dismiss(output, sizeof output, 200), dismiss, sizeof dismiss));
+	EXPECT(kangirlo_write_dismiss(output, 6, 200).refusal == KANGIRLO_NO_ROOM);
+}
+
+int main(void)
+{
+	test_receiver();
+	test_plain();
+	test_writers();
+	printf("%d passed, %d failed\n", passed, failed);
+	return failed != 0;
+}

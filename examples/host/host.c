@@ -1,0 +1,127 @@
+/* A session host: 400 connections, each with a receiver of its own, whose messages come in turn. What a client sends is read from a
+ * bench file (session i takes the file i modulo how many there are); each session's records go to a file of its own.
+ *
+ *     host FOLDER FILE..          writes FOLDER/000.records to FOLDER/399.records */
+#include "kangirlo.h"
+
+#include <stdio.h>
+#include <stdlib.h>
+
+enum { SESSIONS = 400, LENGTH_BYTES = 2 };
+
+struct file {
+	uint8_t *bytes;
+	size_t length;
+};
+
+struct session {
+	struct kangirlo_receiver receiver;
+	const struct file *file;
+	size_t at;              /* how much of the file is read */
+	FILE *records;
+};
+
+struct totals {
+	unsigned long messages;
+	unsigned long refused;
+	unsigned long records;
+};
+
+static struct session sessions[SESSIONS];
+
+/* One output serves all sessions: a call keeps nothing, and its records are written out before the next. */
+static uint8_t output[KANGIRLO_OUTPUT_MOST];
+
+static void fail(const char *what)
+{
+	perror(what);
+	exit(1);
+}
+
+static struct file read_file(const char *name)
+{
+	struct file file = {NULL, 0};
+	size_t room = 0, got = 1;
+	FILE *in = fopen(name, "rb");
+
+	if (!in)
+		fail(name);
+	while (got > 0) {
+		if (file.length == room) {
+			room = room ? 2 * room : 65536;
+			file.bytes = realloc(file.bytes, room);
+			if (!file.bytes)
+				fail(name);
+		}
+		got = fread(file.bytes + file.length, 1, room - file.length, in);
+		file.length += got;
+	}
+	if (ferror(in))
+		fail(name);
+	fclose(in);
+	return file;
+}
+
+static void open_sessions(const char *folder, const struct file *files, size_t count)
+{
+	char name[4096];
+
+	for (size_t i = 0; i < SESSIONS; i++) {
+		snprintf(name, sizeof name, "%s/%03zu.records", folder, i);
+		sessions[i].receiver = kangirlo_fresh();
+		sessions[i].file = &files[i % count];
+		sessions[i].records = fopen(name, "wb");
+		if (!sessions[i].records)
+			fail(name);
+	}
+}
+
+/* Takes a session's next message, and answers 0 where there is no whole one. */
+static int take_message(struct session *session, struct totals *totals)
+{
+	const uint8_t *entry = session->file->bytes + session->at;
+	size_t left = session->file->length - session->at, length;
+	struct kangirlo_answer answer;
+
+	if (left < LENGTH_BYTES)
+		return 0;
+	length = (size_t)entry[0] << 8 | entry[1];
+	if (left - LENGTH_BYTES < length)
+		return 0;
+	answer = kangirlo_receive(&session->receiver, entry + LENGTH_BYTES, length, output, sizeof output);
+	if (fwrite(output, KANGIRLO_RECORD_BYTES, answer.records, session->records) != answer.records)
+		fail("records");
+	session->at += LENGTH_BYTES + length;
+	totals->messages++;
+	totals->refused += answer.refusal != KANGIRLO_TAKEN;
+	totals->records += answer.records;
+	return 1;
+}
+
+int main(int count, char **words)
+{
+	struct totals totals = {0, 0, 0};
+	struct file *files;
+	int taken = 1;
+
+	if (count < 3) {
+		fprintf(stderr, "usage: host FOLDER FILE..\n");
+		return 2;
+	}
+	files = calloc((size_t)count - 2, sizeof *files);
+	if (!files)
+		fail("files");
+	for (int i = 2; i < count; i++)
+		files[i - 2] = read_file(words[i]);
+	open_sessions(words[1], files, (size_t)count - 2);
+	while (taken) {
+		taken = 0;
+		for (size_t i = 0; i < SESSIONS; i++)
+			taken |= take_message(&sessions[i], &totals);
+	}
+	for (size_t i = 0; i < SESSIONS; i++)
+		if (fclose(sessions[i].records) != 0)
+			fail("records");
+	printf("%d sessions, %lu messages, %lu refused, %lu records\n", SESSIONS, totals.messages, totals.refused, totals.records);
+	return 0;
+}

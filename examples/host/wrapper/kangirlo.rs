@@ -1,0 +1,375 @@
+//! A safe face of include/kangirlo.h: what is lent is a slice, a refusal is an error, and a record is an enum.
+//! Slices are never null and do not overlap where one of them is `&mut`, which is all that the header asks.
+
+use std::mem::size_of;
+
+pub const MESSAGE_MOST: usize = 4096;
+pub const RECORD_BYTES: usize = 21;
+/// The most that one message makes a receiver write.
+pub const OUTPUT_MOST: usize = 49152;
+
+#[repr(C)]
+#[derive(Clone, Copy, Debug, PartialEq, Eq)]
+pub struct Milliseconds(pub u32);
+
+#[repr(C)]
+#[derive(Clone, Copy, Debug, PartialEq, Eq)]
+pub struct Microseconds(pub u64);
+
+/// Why a message, a record or a value is refused: a number of the header's table.
+#[derive(Clone, Copy, Debug, PartialEq, Eq)]
+pub struct Refusal(u8);
+
+impl Refusal {
+    pub const SHORT: Self = Self(1);
+    pub const TOO_LONG: Self = Self(2);
+    pub const UNEXPECTED: Self = Self(3);
+    pub const BAD_LENGTH: Self = Self(4);
+    pub const TRUNCATED: Self = Self(5);
+    pub const NOT_SHORTEST: Self = Self(6);
+    pub const BAD_COUNT: Self = Self(7);
+    pub const BAD_FIELD: Self = Self(8);
+    pub const BAD_FLAGS: Self = Self(9);
+    pub const BAD_RANGE: Self = Self(10);
+    pub const BAD_OFFSET: Self = Self(11);
+    pub const TRAILING: Self = Self(12);
+    pub const NO_ROOM: Self = Self(13);
+    pub const BAD_RECORD: Self = Self(14);
+
+    pub fn number(self) -> u8 {
+        self.0
+    }
+}
+
+fn accepted(refusal: u8) -> Result<(), Refusal> {
+    match refusal {
+        0 => Ok(()),
+        _ => Err(Refusal(refusal)),
+    }
+}
+
+/// What a client ready set.
+#[repr(C)]
+#[derive(Clone, Copy, Debug, PartialEq, Eq)]
+pub struct Settings {
+    pub flags: u32,
+    pub version: u32,
+    pub most: u16,
+}
+
+/// One connection's receiver.
+#[repr(C)]
+#[derive(Clone)]
+pub struct Receiver {
+    ready: u8,
+    begun: u8,
+    ignoring: u8,
+    settings: Settings,
+    states: [u8; 256],
+    xs: [i32; 256],
+    ys: [i32; 256],
+}
+
+const _: () = assert!(size_of::<Receiver>() == 2320);
+
+#[derive(Clone, Copy, Debug, PartialEq, Eq)]
+pub enum State {
+    Out,
+    Hovering,
+    Engaged,
+}
+
+/// What became of the frames of a message that was taken.
+#[derive(Clone, Copy, Debug, PartialEq, Eq)]
+pub struct Taken<'a> {
+    pub injected: u8,
+    pub ignored: u8,
+    pub cancelled: u8,
+    pub time: Milliseconds,
+    pub records: Records<'a>,
+}
+
+impl Default for Receiver {
+    fn default() -> Self {
+        Self::new()
+    }
+}
+
+impl Receiver {
+    pub fn new() -> Self {
+        unsafe { c::kangirlo_fresh() }
+    }
+
+    /// What a client ready set, once one was accepted.
+    pub fn settings(&self) -> Option<Settings> {
+        (self.ready != 0).then_some(self.settings)
+    }
+
+    /// Whether frames are ignored until one opens.
+    pub fn is_ignoring(&self) -> bool {
+        self.ignoring != 0
+    }
+
+    /// A contact's state and stored position.
+    pub fn contact(&self, id: u8) -> (State, i32, i32) {
+        let at = usize::from(id);
+        let state = match self.states[at] {
+            0 => State::Out,
+            1 => State::Hovering,
+            _ => State::Engaged,
+        };
+        (state, self.xs[at], self.ys[at])
+    }
+
+    /// Judges a message and carries it out.
+    pub fn receive<'a>(
+        &mut self,
+        message: &[u8],
+        output: &'a mut [u8],
+    ) -> Result<Taken<'a>, Refusal> {
+        let answer = unsafe {
+            c::kangirlo_receive(
+                self,
+                message.as_ptr(),
+                message.len(),
+                output.as_mut_ptr(),
+                output.len(),
+            )
+        };
+        accepted(answer.refusal)?;
+        Ok(Taken {
+            injected: answer.injected,
+            ignored: answer.ignored,
+            cancelled: answer.cancelled,
+            time: answer.time,
+            records: Records {
+                bytes: &output[..RECORD_BYTES * answer.records],
+            },
+        })
+    }
+}
+
+/// Reads a touch message by itself.
+pub fn plain<'a>(
+    message: &[u8],
+    output: &'a mut [u8],
+) -> Result<(Milliseconds, Records<'a>), Refusal> {
+    let answer = unsafe {
+        c::kangirlo_plain(
+            message.as_ptr(),
+            message.len(),
+            output.as_mut_ptr(),
+            output.len(),
+        )
+    };
+    accepted(answer.refusal)?;
+    Ok((
+        answer.time,
+        Records {
+            bytes: &output[..RECORD_BYTES * answer.records],
+        },
+    ))
+}
+
+#[derive(Clone, Copy, Debug, PartialEq, Eq)]
+pub struct Contact {
+    pub flags: u8,
+    pub id: u8,
+    pub x: i32,
+    pub y: i32,
+    /// Left, top, right, bottom.
+    pub sides: Option<[i16; 4]>,
+    pub orientation: Option<u16>,
+    pub pressure: Option<u16>,
+}
+
+#[derive(Clone, Copy, Debug, PartialEq, Eq)]
+pub enum Record {
+    Head { count: u8, offset: Microseconds },
+    Contact(Contact),
+    Cancel(Contact),
+    Dismissal(Contact),
+}
+
+/// Reads the record at the front of some bytes.
+pub fn read_record(bytes: &[u8]) -> Result<Record, Refusal> {
+    let read = unsafe { c::kangirlo_read_record(bytes.as_ptr(), bytes.len()) };
+    accepted(read.refusal)?;
+    let has = |bit: u8| read.present & bit != 0;
+    let contact = Contact {
+        flags: read.flags,
+        id: read.id,
+        x: read.x,
+        y: read.y,
+        sides: has(1).then_some([read.left, read.top, read.right, read.bottom]),
+        orientation: has(2).then_some(read.orientation),
+        pressure: has(4).then_some(read.pressure),
+    };
+    Ok(match read.kind {
+        0 => Record::Head {
+            count: read.count,
+            offset: read.offset,
+        },
+        1 => Record::Contact(contact),
+        2 => Record::Cancel(contact),
+        _ => Record::Dismissal(contact),
+    })
+}
+
+/// The records that a call wrote.
+#[derive(Clone, Copy, Debug, PartialEq, Eq)]
+pub struct Records<'a> {
+    bytes: &'a [u8],
+}
+
+impl<'a> Records<'a> {
+    /// Their bytes, as a record file holds them.
+    pub fn bytes(&self) -> &'a [u8] {
+        self.bytes
+    }
+}
+
+impl Iterator for Records<'_> {
+    type Item = Record;
+
+    fn next(&mut self) -> Option<Record> {
+        let record = read_record(self.bytes).ok()?;
+        self.bytes = &self.bytes[RECORD_BYTES..];
+        Some(record)
+    }
+}
+
+fn written(answer: c::Written) -> Result<usize, Refusal> {
+    accepted(answer.refusal).map(|()| answer.bytes)
+}
+
+pub fn write_server_ready(output: &mut [u8], version: u32) -> Result<usize, Refusal> {
+    written(unsafe { c::kangirlo_write_server_ready(output.as_mut_ptr(), output.len(), version) })
+}
+
+pub fn write_client_ready(output: &mut [u8], set: Settings) -> Result<usize, Refusal> {
+    written(unsafe {
+        c::kangirlo_write_client_ready(
+            output.as_mut_ptr(),
+            output.len(),
+            set.flags,
+            set.version,
+            set.most,
+        )
+    })
+}
+
+/// Writes a touch message of the records (heads and contacts) of its frames.
+pub fn write_touch(
+    output: &mut [u8],
+    time: Milliseconds,
+    records: &[u8],
+) -> Result<usize, Refusal> {
+    written(unsafe {
+        c::kangirlo_write_touch(
+            output.as_mut_ptr(),
+            output.len(),
+            time,
+            records.as_ptr(),
+            records.len(),
+        )
+    })
+}
+
+pub fn write_suspend(output: &mut [u8]) -> Result<usize, Refusal> {
+    written(unsafe { c::kangirlo_write_suspend(output.as_mut_ptr(), output.len()) })
+}
+
+pub fn write_resume(output: &mut [u8]) -> Result<usize, Refusal> {
+    written(unsafe { c::kangirlo_write_resume(output.as_mut_ptr(), output.len()) })
+}
+
+pub fn write_dismiss(output: &mut [u8], id: u8) -> Result<usize, Refusal> {
+    written(unsafe { c::kangirlo_write_dismiss(output.as_mut_ptr(), output.len(), id) })
+}
+
+/// The header, declared again.
+mod c {
+    use super::{Microseconds, Milliseconds, Receiver, size_of};
+
+    #[repr(C)]
+    pub struct Answer {
+        pub refusal: u8,
+        pub injected: u8,
+        pub ignored: u8,
+        pub cancelled: u8,
+        pub time: Milliseconds,
+        pub records: usize,
+    }
+
+    #[repr(C)]
+    pub struct PlainAnswer {
+        pub refusal: u8,
+        pub time: Milliseconds,
+        pub records: usize,
+    }
+
+    #[repr(C)]
+    pub struct Written {
+        pub refusal: u8,
+        pub bytes: usize,
+    }
+
+    #[repr(C)]
+    pub struct Record {
+        pub refusal: u8,
+        pub kind: u8,
+        pub count: u8,
+        pub flags: u8,
+        pub present: u8,
+        pub id: u8,
+        pub orientation: u16,
+        pub pressure: u16,
+        pub left: i16,
+        pub top: i16,
+        pub right: i16,
+        pub bottom: i16,
+        pub x: i32,
+        pub y: i32,
+        pub offset: Microseconds,
+    }
+
+    const _: () = assert!(size_of::<Answer>() == 16 && size_of::<PlainAnswer>() == 16);
+    const _: () = assert!(size_of::<Written>() == 16 && size_of::<Record>() == 40);
+
+    unsafe extern "C" {
+        pub fn kangirlo_fresh() -> Receiver;
+        pub fn kangirlo_receive(
+            receiver: *mut Receiver,
+            message: *const u8,
+            length: usize,
+            output: *mut u8,
+            room: usize,
+        ) -> Answer;
+        pub fn kangirlo_plain(
+            message: *const u8,
+            length: usize,
+            output: *mut u8,
+            room: usize,
+        ) -> PlainAnswer;
+        pub fn kangirlo_write_server_ready(output: *mut u8, room: usize, version: u32) -> Written;
+        pub fn kangirlo_write_client_ready(
+            output: *mut u8,
+            room: usize,
+            flags: u32,
+            version: u32,
+            most: u16,
+        ) -> Written;
+        pub fn kangirlo_write_touch(
+            output: *mut u8,
+            room: usize,
+            time: Milliseconds,
+            records: *const u8,
+            length: usize,
+        ) -> Written;
+        pub fn kangirlo_write_suspend(output: *mut u8, room: usize) -> Written;
+        pub fn kangirlo_write_resume(output: *mut u8, room: usize) -> Written;
+        pub fn kangirlo_write_dismiss(output: *mut u8, room: usize, id: u8) -> Written;
+        pub fn kangirlo_read_record(records: *const u8, length: usize) -> Record;
+    }
+}

@@ -90,17 +90,8 @@ pub fn run_frames(
         let head = timed(found.head, untimed);
         at += found.contacts;
         let before = run.records;
-        let next = step::step(
-            &mut out[pos..],
-            wet,
-            &frames[at..],
-            head,
-            most,
-            run,
-            states,
-            xs,
-            ys,
-        );
+        let rest = &frames[at..];
+        let next = step::step(&mut out[pos..], wet, rest, head, most, run, states, xs, ys);
         run = next.run;
         pos = pass(pos, run.records - before, out.len());
         at += next.end;

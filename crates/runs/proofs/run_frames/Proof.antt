@@ -91,6 +91,15 @@ ends c =
 add-at : tie.Need-add-at Inv-loop μ-loop
 add-at c = omega (arith, begins c, short (c .before .before .before .before .before .before))
 
+sub-rest : tie.Need-sub-rest Inv-loop μ-loop
+sub-rest c = search needs
+
+part-rest-start : tie.Need-part-rest-start Inv-loop μ-loop
+part-rest-start c = search needs
+
+part-rest-end : tie.Need-part-rest-end Inv-loop μ-loop
+part-rest-end c = search needs
+
 sub-step : tie.Need-sub-step Inv-loop μ-loop
 sub-step c = search needs
 
@@ -99,15 +108,6 @@ part-step-start c = search needs
 
 part-step-end : tie.Need-part-step-end Inv-loop μ-loop
 part-step-end c = search needs
-
-sub-step-2 : tie.Need-sub-step-2 Inv-loop μ-loop
-sub-step-2 c = search needs
-
-part-step-start-2 : tie.Need-part-step-start-2 Inv-loop μ-loop
-part-step-start-2 c = search needs
-
-part-step-end-2 : tie.Need-part-step-end-2 Inv-loop μ-loop
-part-step-end-2 c = search needs
 
 step-requires : tie.Need-step-requires Inv-loop μ-loop
 step-requires c κs = search needs
@@ -180,12 +180,12 @@ run-frames-spec =
     find-head-requires
     timed-requires
     add-at
+    sub-rest
+    part-rest-start
+    part-rest-end
     sub-step
     part-step-start
     part-step-end
-    sub-step-2
-    part-step-start-2
-    part-step-end-2
     step-requires
     sub-pass
     pass-requires

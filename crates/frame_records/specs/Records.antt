@@ -1,6 +1,6 @@
 -- Document 01, "House records": the records of frames as a format, "each head followed by its count of contacts"; whatever is not well formed
 -- is 14.
-use Prim.Native.Nat.{ℕ, zero, suc, _<_, _^_}
+use Prim.Native.Nat.{ℕ, zero, suc}
 use mathlib.Core.Path.{_≡_}
 use mathlib.Core.Bool.{Bool, true, false, cond}
 use mathlib.Core.List.{List, [], _∷_}

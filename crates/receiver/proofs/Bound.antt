@@ -3,7 +3,7 @@
 use Prim.Native.Nat.{ℕ, _≤_}
 use mathlib.Core.Path.{_≡_, refl, ap}
 use mathlib.Core.Bool.{Bool, true, false, cond}
-use mathlib.Core.List.{List, map}
+use mathlib.Core.List.{List}
 use native.Mathlib.Omega.{arith}
 use borrow.Author.Tests.{eqb-true, eqb-false}
 use lib.Dec.{eqb}
@@ -16,15 +16,13 @@ use Rattle.states.specs.Table.{hovering}
 use Rattle.messages.specs.Header.{headed, headerBytes, clientReady, touch}
 use Rattle.messages.specs.Bodies.{ready}
 use Rattle.messages.proofs.Laws.{headed-got}
-use Rattle.touch.specs.Touch.{Frame, Touch, body}
+use Rattle.touch.specs.Touch.{body}
 use Rattle.contacts.specs.Table.{Table, contacts, stateAt}
 use Rattle.contacts.specs.Machine.{dismissBytes}
-use Rattle.contacts.proofs.Table.{count-le}
 use Rattle.contacts.proofs.Machine.{keep-bytes}
-use Rattle.runs.specs.Runs.{withoutOffset}
 use Rattle.moves.proofs.Dismissal.{dismiss-length}
 use Rattle.receiver.specs.declared.Receiver.{Receiver}
-use Rattle.receiver.specs.Receive.{Effect, takes, rulesOf, machineOf, untimed, judged, framesFor, settled, touched, dismissedBy, bodyEffect, effect}
+use Rattle.receiver.specs.Receive.{Effect, takes, machineOf, judged, settled, touched, dismissedBy, bodyEffect, effect}
 use Rattle.receiver.specs.Events.{readyEffect, touchEffect, dismissEffect}
 use Rattle.receiver.proofs.Weight.{touch-small}
 

@@ -17,7 +17,8 @@ use Rattle.touch.proofs.Laws.{contact-law, frame-head-law, frame-law, touch-hea
 use Rattle.touch.proofs.Passes.{body-got, frame-got}
 use Rattle.touch.proofs.Ranges.{contact-read, frame-fits}
 use Rattle.receiver.specs.declared.Receiver.{Receiver}
-use Rattle.receiver.specs.Receive.{untimed, withoutOffset, framesFor}
+use Rattle.runs.specs.Runs.{withoutOffset}
+use Rattle.receiver.specs.Receive.{untimed, framesFor}
 
 -- each of a list
 abbrev pub All : {A : Type 0} → (A → Type 0) → List A → Type 0

@@ -19,7 +19,8 @@ use Rattle.contacts.proofs.Table.{resting-count}
 use Rattle.contacts.proofs.Machine.{counts-total}
 use Rattle.receiver.specs.declared.Receiver.{Receiver}
 use Rattle.receiver.specs.declared.Answer.{Answer}
-use Rattle.receiver.specs.Receive.{off, mark, rulesOf, machineOf, fresh, untimed, withoutOffset, framesFor, touched, judged}
+use Rattle.runs.specs.Runs.{withoutOffset}
+use Rattle.receiver.specs.Receive.{off, mark, rulesOf, machineOf, fresh, untimed, framesFor, touched, judged}
 use Rattle.receiver.specs.History.{Sent, OfBytes, next, answerTo, after, tableOf, framesTaken}
 use Rattle.receiver.proofs.Became.{true-not-false, Became, became, refused, settles, touches, dismisses}
 use Rattle.receiver.proofs.Fitting.{All, FrameFits, body-fits, frames-fit}

@@ -17,7 +17,8 @@ use Rattle.contacts.proofs.Conforms.{every-first, every-others}
 use Rattle.contacts.proofs.Machine.{verdict-other, ignored-machine, ignored-bytes, cancelled-machine, cancelled-bytes, machine-append, bytes-append, keep-table, keep-bytes}
 use Rattle.receiver.specs.declared.Receiver.{Receiver}
 use Rattle.receiver.specs.declared.Answer.{Answer}
-use Rattle.receiver.specs.Receive.{rulesOf, machineOf, untimed, withoutOffset, framesFor, touched}
+use Rattle.runs.specs.Runs.{withoutOffset}
+use Rattle.receiver.specs.Receive.{rulesOf, machineOf, untimed, framesFor, touched}
 use Rattle.receiver.specs.History.{Sent, next, wrote, after, written, tableOf, framesTaken, opens, unopened, Unopened, machineAt, bytesAt, CancelledAfter, Silent}
 use Rattle.receiver.proofs.Became.{Became, became, refused, settles, touches, dismisses}
 use Rattle.receiver.proofs.Invariants.{machine-touched, bytes-touched}

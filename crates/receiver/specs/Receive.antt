@@ -1,10 +1,9 @@
 -- The receiver of document 01: what becomes of it, what it answers and what it writes, of any message lent any room.
-use Prim.Native.Nat.{ℕ, _+_, _/_, _%_}
+use Prim.Native.Nat.{ℕ, _/_, _%_}
 use mathlib.Core.Path.{_≡_}
 use mathlib.Core.Bool.{Bool, true, false, cond, not}
 use mathlib.Core.List.{List, [], _∷_, map}
 use lib.Dec.{eqb, leb}
-use lib.IntN.{pos}
 use lib.ListN.{length}
 use Rattle.paper.specs.Refusals.{none, noRoom, trailing}
 use Rattle.paper.specs.declared.Milliseconds.{Milliseconds}
@@ -21,6 +20,7 @@ use Rattle.contacts.specs.Table.{Table, resting}
 use Rattle.contacts.specs.Conforms.{Rules}
 use Rattle.contacts.specs.Machine.{Machine, runMachine, runBytes, runCounts, dismissTable, dismissBytes, Counts}
 use Rattle.contacts.specs.Machine as machine
+use Rattle.runs.specs.Runs.{withoutOffset}
 use Rattle.receiver.specs.declared.Receiver.{Receiver}
 use Rattle.receiver.specs.declared.Answer.{Answer}
 
@@ -72,9 +72,6 @@ untimed r = eqb (r .settings .flags / 2 % 2) 1
 -- "11 is judged on a message's first frame as long as no touch message with a frame has been accepted since ready."
 abbrev pub judged : Receiver → Bool
 judged r = cond (untimed r) false (off (r .begun))
-
-abbrev pub withoutOffset : Frame → Frame
-withoutOffset f = record { offset = record { 0 = 0 }; contacts = f .contacts }
 
 unfoldable pub framesFor : Receiver → List Frame → List Frame
 framesFor r fs = cond (untimed r) (map withoutOffset fs) fs

@@ -60,7 +60,7 @@ byte-stored d at b h = rw (drop-drop 1 at d, add-one at) (set-split d at b h)
 
 -- ---- several
 
-all-append : (ss ts : List (List ℕ)) (p : Placed) → addAll (ss ++ ts) p ≡ addAll ts (addAll ss p)
+pub all-append : (ss ts : List (List ℕ)) (p : Placed) → addAll (ss ++ ts) p ≡ addAll ts (addAll ss p)
 unfolding addAll
 all-append [] ts p = refl
 all-append (s ∷ ss) ts p = all-append ss ts (addTo s p)

@@ -7,7 +7,7 @@ use mathlib.Core.Path.{_≡_, refl, sym, ap, _∙_}
 use mathlib.Core.Bool.{Bool, true, false, cond}
 use mathlib.Core.List.{List}
 use native.Mathlib.Omega.{arith}
-use lib.Dec.{leb, eqb, lit≤}
+use lib.Dec.{leb, eqb}
 use lib.ListN.{length}
 use Rattle.paper.specs.Refusals.{none, noRoom}
 use Rattle.slices.specs.Writing.{Draft, bytes, refuse, given, answered, left, Writes}
@@ -24,7 +24,7 @@ use Rattle.receiver.specs.Receive.{Receives}
 use Rattle.receiver.specs.History.{Unchanged}
 use Rattle.receiver.specs.declared.Receiver.{Receiver}
 use Rattle.receiver.specs.declared.Answer.{Answer}
-use Rattle.receiver.proofs.Refusing.{Numbered, Tame, and-then, whole-tame, touch-tame, headed-tame}
+use Rattle.receiver.proofs.Refusing.{Tame, and-then, whole-tame, touch-tame, headed-tame}
 use Rattle.receiver.proofs.Histories.{a-refusal-changes-nothing}
 
 -- a writer's refusal: 13, or the one of its own draft; no byte is counted, and the output is as it was
@@ -59,15 +59,15 @@ plainly-tame : (l : List ℕ) → Tame (plainly l)
 unfolding readMessage
 plainly-tame l = and-then (headed (λ x. eqb x event.touch) l) _ (headed-tame _ l) (λ x b. whole-tame (touch strict false) (touch-tame false) b)
 
--- room asked, a refusal is numbered
-given-numbered : (room : ℕ) (x : Got Touch) → Tame x → (n : ℕ) → given room (draftOf x) ≡ refuse n → Numbered n
+-- room asked, a refusal is one of 1 to 13
+given-numbered : (room : ℕ) (x : Got Touch) → Tame x → (n : ℕ) → given room (draftOf x) ≡ refuse n → (1 ≤ n) × (n ≤ 13)
 unfolding given
-given-numbered room (bad m) h n e = let z : m ≡ n = cc in (rw z at h)
+given-numbered room (bad m) h n e = let z : m ≡ n = cc in (omega (arith, h .low), omega (arith, h .high))
 given-numbered room (got m t) h n e = go (leb (length (framesBytes (m .frames))) room) e
   where
-    go : (b : Bool) → cond b (bytes (framesBytes (m .frames))) (refuse noRoom) ≡ refuse n → Numbered n
+    go : (b : Bool) → cond b (bytes (framesBytes (m .frames))) (refuse noRoom) ≡ refuse n → (1 ≤ n) × (n ≤ 13)
     go true e = absurd (let z : _≡_ {A = ℕ} 0 1 = cc in omega arith)
-    go false e = let z : noRoom ≡ n = cc in rw (← z) (record { low = lit≤ tt; high = lit≤ tt })
+    go false e = let z : noRoom ≡ n = cc in (omega arith, omega arith)
 
 pub the-plain-reading's-refusal-changes-nothing : (l : List ℕ) (a : PlainAnswer) (before after : List ℕ) → ReadsPlainly l a before after → (a .refusal ≡ none → ⊥) → Unread a before after
 the-plain-reading's-refusal-changes-nothing l a before after h k = go (given (length before) (draftOf (plainly l))) refl
@@ -81,8 +81,8 @@ the-plain-reading's-refusal-changes-nothing l a before after h k = go (given (le
         record {
           output = h .output ∙ ap (left before) e;
           others = q ∙ ap plain.refusal (sym m);
-          low = rw m (b .low);
-          high = rw m (b .high);
+          low = rw m (b .0);
+          high = rw m (b .1);
         }
 
 -- THE DEMAND, over the public calls

@@ -1,9 +1,9 @@
-// The entries of a bench file from standard input, through a lent space: a file of any size in constant memory.
+// The entries of a bench file that is read, through a lent space: a file of any size in constant memory.
 use entries::Front;
 ghost use mathlib.Core.Path.{_≡_};
 ghost use Prim.Native.Nat.{_+_, _≤_};
 ghost use lib.ListN.{length};
-ghost use Rattle.feed.specs.Within.{Inside, Within};
+ghost use Rattle.feed.specs.Within.{Inside, Within, Moves, ReadsOn, Fills};
 
 // How much space every entry fits into: two bytes of length and 65,535 more, and as much again to read ahead.
 pub const SPACE: usize = 131072;
@@ -31,10 +31,10 @@ pub fn opened() -> Window
     Window { at: 0, end: 0 }
 }
 
-// Moves what is left of the window to the front.
+// Moves what is left of the window to the front, and answers how much that is.
 fn moved(space: &mut [u8], window: Window) -> usize
     requires { ⌜ Inside (length (now space)) window ⌝ }
-    ensures { λ r. ⌜ (r ≤ length (now (space .exit))) × (length (now (space .exit)) ≡ length (now (space .entry))) ⌝ }
+    ensures { λ r. ⌜ Moves window r (now (space .entry)) (now (space .exit)) ⌝ }
 {
     let mut from = window.at;
     let mut to: usize = 0;
@@ -48,11 +48,34 @@ fn moved(space: &mut [u8], window: Window) -> usize
 }
 
 // Reads on behind the bytes that are kept, until the space is full or the input ends.
-fn read_on(space: &mut [u8], kept: usize) -> usize
+fn read_on(input: i32, space: &mut [u8], kept: usize) -> usize
     requires { ⌜ kept ≤ length (now space) ⌝ }
-    ensures { λ r. ⌜ (r ≤ length (now (space .exit))) × (length (now (space .exit)) ≡ length (now (space .entry))) ⌝ }
+    ensures { λ r. ⌜ ReadsOn kept r (now (space .entry)) (now (space .exit)) ⌝ }
 {
-    kept + io::read_full(libc::STDIN_FILENO, &mut space[kept..])
+    kept + io::read_full(input, &mut space[kept..])
+}
+
+// The window, read on for where no whole entry is at its front. Of a window that is not the space's nothing is kept.
+pub fn fill(input: i32, space: &mut [u8], window: Window) -> Window
+    ensures { λ r. ⌜ Fills window r (now (space .entry)) (now (space .exit)) ⌝ }
+{
+    let at = window.at;
+    let end = window.end;
+    if space.len() < end {
+        return opened();
+    }
+    if end < at {
+        return opened();
+    }
+    let seen = entries::read_front(&space[at..end]);
+    if let Front::Entry(_) = seen {
+        return window;
+    }
+    let kept = moved(space, window);
+    Window {
+        at: 0,
+        end: read_on(input, space, kept),
+    }
 }
 
 // The entry that stands at a place of the bytes up to end, if it is whole.
@@ -72,26 +95,15 @@ fn entry_at(space: &[u8], at: usize, end: usize) -> Next
     Next::Entry(start, n, rest)
 }
 
-// The next entry, which is read on for where the window does not hold it whole.
+// The next entry of standard input.
 pub fn next_entry(space: &mut [u8], window: Window) -> Next
     ensures { λ r. ⌜ Within (length (now (space .exit))) r ⌝ }
 {
-    let at = window.at;
-    let end = window.end;
-    if space.len() < end {
+    let filled = fill(libc::STDIN_FILENO, space, window);
+    let at = filled.at;
+    let end = filled.end;
+    if end <= at {
         return Next::End;
     }
-    if end < at {
-        return Next::End;
-    }
-    let seen = entry_at(space, at, end);
-    if let Next::Entry(_, _, _) = seen {
-        return seen;
-    }
-    let kept = moved(space, window);
-    let all = read_on(space, kept);
-    if all == 0 {
-        return Next::End;
-    }
-    entry_at(space, 0, all)
+    entry_at(space, at, end)
 }

@@ -1,1 +1,3 @@
+pub mod Taking
 pub mod Unique
+pub mod Room

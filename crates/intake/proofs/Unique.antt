@@ -1,25 +1,27 @@
--- Two outcomes that the contract allows are equal, in receiver, answer, place and output.
+-- Two outcomes that the contract allows are equal, in the answer, the list of answers and the output.
 -- Assumes nothing.
-use Prim.Native.Nat.{ℕ, _+_}
+use Prim.Native.Nat.{ℕ}
 use mathlib.Core.Path.{_≡_, sym, _∙_}
 use mathlib.Core.List.{List}
-use Rattle.entries.specs.Entries.{frontOf}
-use Rattle.entries.specs.declared.Front.{Front}
-use Rattle.entries.specs.declared.Front.the-variants as Front
+use native.Mathlib.Omega.{arith}
 use Rattle.receiver.specs.declared.Receiver.{Receiver}
-use Rattle.intake.specs.Intake.{TakesBy, Takes}
-use Rattle.intake.specs.declared.Taken.{Taken}
+use Rattle.receiver.specs.History.{Sent}
+use Rattle.intake.specs.Feeding.{Feeds, TakesEntries}
+use Rattle.intake.specs.declared.Fed.{Fed}
 
-by-front : (f : Front) (r : Receiver) (file before : List ℕ) (t u : Taken) (a b : List ℕ) → TakesBy f r file before t a → TakesBy f r file before u b → (t ≡ u) × (a ≡ b)
-by-front (Front.Entry n) r file before t u a b h k = (
-  λ i. record {
-    receiver = (h .received .kept ∙ sym (k .received .kept)) i;
-    answer = (h .received .answered ∙ sym (k .received .answered)) i;
-    used = (h .used ∙ sym (k .used)) i;
-  },
-  h .received .output ∙ sym (k .received .output),
-)
-by-front Front.Part r file before t u a b h k = (h .0 ∙ sym (k .0), h .1 ∙ sym (k .1))
+feeds-unique : (r : Receiver) (h : List Sent) (f g : Fed) (a₀ a b o₀ o p : List ℕ) → Feeds r h f a₀ a o₀ o → Feeds r h g a₀ b o₀ p → (f ≡ g) × (a ≡ b) × (o ≡ p)
+feeds-unique r h f g a₀ a b o₀ o p x y =
+    let n : f .records ≡ g .records = omega (arith, x .records, y .records) in (
+      λ i. record {
+        receiver = (x .receiver ∙ sym (y .receiver)) i;
+        entries = (x .entries ∙ sym (y .entries)) i;
+        used = (x .used ∙ sym (y .used)) i;
+        records = n i;
+      },
+      x .answers ∙ sym (y .answers),
+      x .output ∙ sym (y .output),
+    )
 
-pub take-entry-unique : (r : Receiver) (file before : List ℕ) (t u : Taken) (a b : List ℕ) → Takes r file before t a → Takes r file before u b → (t ≡ u) × (a ≡ b)
-take-entry-unique r file before t u a b h k = by-front (frontOf file) r file before t u a b (h .takes) (k .takes)
+pub take-entries-unique : (least : ℕ) (r : Receiver) (file : List ℕ) (f g : Fed) (a₀ a b o₀ o p : List ℕ) → TakesEntries least r file f a₀ a o₀ o → TakesEntries least r file g a₀ b o₀ p
+    → (f ≡ g) × (a ≡ b) × (o ≡ p)
+take-entries-unique least r file f g a₀ a b o₀ o p x y = feeds-unique r _ f g a₀ a b o₀ o p (x .fed) (y .fed)

@@ -1,2 +1,2 @@
--- Entries of a bench file, taken by a receiver.
-pub mod Intake
+-- Entries of a bench file, fed to a receiver.
+pub mod Feeding

@@ -1,54 +1,46 @@
--- The two ways of adding text to a page, and adding it through the page's lent tail.
+-- Texts that are added to a page: one of them, through the page's lent tail or as a byte, and several after each other.
 -- Assumes nothing.
 use Prim.Native.Nat.{ℕ, _+_, _-_, _≤_, _<_}
 use mathlib.Core.Path.{_≡_, refl, sym, ap, _∙_}
-use mathlib.Core.Bool.{Bool, true, false, cond}
+use mathlib.Core.Bool.{Bool, true, false}
 use mathlib.Core.List.{List, [], _∷_, _++_}
 use native.Mathlib.Nat.{add-zero}
 use native.Mathlib.Omega.{arith}
 use lib.Dec.{leb}
-use lib.ListN.{length, take, drop, set, length-drop}
+use lib.ListN.{length, take, drop, set, length-append, length-drop}
 use lib.Seq.{set-split, drop-drop}
 use native.Mathlib.Numerals.{add-one}
 use borrow.Author.Tests.{le-leb, lt-leb, leb-true, leb-false}
 use borrow.Rule.Slice.PartMut.{midOf, putMid}
-use Rattle.slices.specs.Writing.{laid, bytes, Writes, given, answered, left, refuse}
+use Rattle.slices.specs.Writing.{laid, bytes, Writes, answered, left}
 use Rattle.slices.specs.declared.Written.{Written}
 use Rattle.slices.proofs.Laws.{given-room, given-none}
-use Rattle.slices.proofs.Tails.{laid-length, laid-none, put-back, tail-is}
-use Rattle.paper.specs.Refusals.{noRoom}
-use Rattle.lines.specs.Page.{Added}
+use Rattle.slices.proofs.Tails.{laidAt, laid-length, laid-none, laid-next, put-back, tail-is}
+use Rattle.lines.specs.Page.{Placed, addTo, addAll, Added}
+
+-- ---- one text
 
 module _ (s : List ℕ) (at next : ℕ) (before after : List ℕ) where
-  pub added-yes : at + length s ≤ length before → next ≡ at + length s → after ≡ take at before ++ laid (drop at before) s → Added s at next before after
+  pub added-yes : at + length s ≤ length before → next ≡ at + length s → after ≡ laidAt before at s → Added (s ∷ []) at next before after
+  unfolding addAll addTo
   added-yes h en ea =
-      record {
-        place = rw (le-leb _ _ h) en;
-        page = rw (le-leb _ _ h) ea;
-        long = ap length ea ∙ laid-length before s at h;
-        inside = λ k. omega arith;
-      }
+      record { all = rw (le-leb _ _ h) (λ i. record { at = en i; page = ea i }); long = ap length ea ∙ laid-length before s at h; inside = λ k. omega arith }
 
-  pub added-no : length before < at + length s → next ≡ at → after ≡ before → Added s at next before after
-  added-no h en ea =
-      record {
-        place = rw (lt-leb _ _ h) en;
-        page = rw (lt-leb _ _ h) ea;
-        long = ap length ea;
-        inside = λ k. omega arith;
-      }
+  pub added-no : length before < at + length s → next ≡ at → after ≡ before → Added (s ∷ []) at next before after
+  unfolding addAll addTo
+  added-no h en ea = record { all = rw (lt-leb _ _ h) (λ i. record { at = en i; page = ea i }); long = ap length ea; inside = λ k. omega arith }
 
 -- a place behind the page holds nothing, not even no text at all
-pub added-behind : (s : List ℕ) (at : ℕ) (d : List ℕ) → length d < at → Added s at at d d
+pub added-behind : (s : List ℕ) (at : ℕ) (d : List ℕ) → length d < at → Added (s ∷ []) at at d d
 added-behind s at d h = added-no s at at d d (omega arith) refl refl
 
-pub added-tail : (s : List ℕ) (at : ℕ) (d l : List ℕ) (w : Written) → at ≤ length d → Writes (bytes s) w (midOf at (length d - at) d) l → Added s at (at + w .bytes) d (putMid at (length d - at) d l)
+pub added-tail : (s : List ℕ) (at : ℕ) (d l : List ℕ) (w : Written) → at ≤ length d → Writes (bytes s) w (midOf at (length d - at) d) l → Added (s ∷ []) at (at + w .bytes) d (putMid at (length d - at) d l)
 added-tail s at d l w h k = go (leb (length s) (length d - at)) refl
   where
     room : length (midOf at (length d - at) d) ≡ length d - at
     room = ap length (tail-is d at) ∙ length-drop at d
 
-    go : (b : Bool) → leb (length s) (length d - at) ≡ b → Added s at (at + w .bytes) d (putMid at (length d - at) d l)
+    go : (b : Bool) → leb (length s) (length d - at) ≡ b → Added (s ∷ []) at (at + w .bytes) d (putMid at (length d - at) d l)
     go true e =
         let r : length s ≤ length d - at = leb-true _ _ e in
         let g = given-room s (length (midOf at (length d - at) d)) (rw room r) in
@@ -65,3 +57,37 @@ added-tail s at d l w h k = go (leb (length s) (length d - at)) refl
 -- one byte, stored at its place
 pub byte-stored : (d : List ℕ) (at b : ℕ) → at < length d → set d at b ≡ take at d ++ laid (drop at d) (b ∷ [])
 byte-stored d at b h = rw (drop-drop 1 at d, add-one at) (set-split d at b h)
+
+-- ---- several
+
+pub all-append : (ss ts : List (List ℕ)) (p : Placed) → addAll (ss ++ ts) p ≡ addAll ts (addAll ss p)
+unfolding addAll
+all-append [] ts p = refl
+all-append (s ∷ ss) ts p = all-append ss ts (addTo s p)
+
+-- texts after texts are texts
+pub added-then : {ss ts : List (List ℕ)} {at m n : ℕ} {b c d : List ℕ} → Added ss at m b c → Added ts m n c d → Added (ss ++ ts) at n b d
+added-then {ss} {ts} {at} {m} {n} {b} {c} {d} h k =
+    record {
+      all = k .all ∙ (ap (addAll ts) (h .all) ∙ sym (all-append ss ts (record { at = at; page = b })));
+      long = k .long ∙ h .long;
+      inside = λ i. omega (arith, k .inside (omega (arith, h .inside i, h .long)), h .long);
+    }
+
+-- all of them
+abbrev pub joined : List (List ℕ) → List ℕ
+joined [] = []
+joined (s ∷ ss) = s ++ joined ss
+
+-- where there is room for all, they stand one after the other
+pub all-with-room : (ss : List (List ℕ)) (at : ℕ) (d : List ℕ) → at + length (joined ss) ≤ length d
+    → addAll ss (record { at = at; page = d }) ≡ record { at = at + length (joined ss); page = laidAt d at (joined ss) }
+unfolding addAll addTo
+all-with-room [] at d h = λ i. record { at = sym (add-zero at) i; page = sym (laid-none d at) i }
+all-with-room (s ∷ ss) at d h =
+    let n = length-append s (joined ss) in
+    let l = laid-length d s at (omega arith) in
+    let a : at + length s + length (joined ss) ≡ at + length (s ++ joined ss) = omega arith in
+    let o = laid-next d s (joined ss) at (length s) refl (omega arith) in
+    let r : at + length s ≤ length d = omega arith in
+    rw (le-leb _ _ r) (all-with-room ss (at + length s) (laidAt d at s) (omega arith) ∙ λ i. record { at = a i; page = o i })

@@ -1,43 +1,61 @@
 -- Text that is added at a place of a page.
-use Prim.Native.Nat.{ℕ, _+_, _/_, _%_, _≤_}
+use Prim.Native.Nat.{ℕ, zero, suc, _+_, _/_, _%_, _≤_}
 use mathlib.Core.Path.{_≡_}
 use mathlib.Core.Bool.{Bool, cond}
 use mathlib.Core.List.{List, [], _∷_, _++_}
-use lib.Dec.{leb}
+use lib.Dec.{leb, ltb}
 use lib.ListN.{length, take, drop}
 use Rattle.slices.specs.Writing.{laid}
-use Rattle.io.specs.Digits.{digits, Fewest, glyph}
+use Rattle.io.specs.Digits.{glyph}
 
--- there is room for s at a place of the page d
-abbrev pub fits : List ℕ → ℕ → List ℕ → Bool
-fits s at d = leb (at + length s) (length d)
+-- ---- texts, one after the other
+
+-- a page, and the place where it goes on
+pub record Placed : Type 0 where
+  pub at : ℕ
+  pub page : List ℕ
+
+-- there is room for s
+abbrev pub fits : List ℕ → Placed → Bool
+fits s p = leb (p .at + length s) (length (p .page))
 
 -- where there is room, s stands at the place and the next place is behind it; otherwise both stay as they were
-pub record Added (s : List ℕ) (at next : ℕ) (before after : List ℕ) : Type 0 where
-  pub place : next ≡ cond (fits s at before) (at + length s) at
-  pub page : after ≡ cond (fits s at before) (take at before ++ laid (drop at before) s) before
+unfoldable pub addTo : List ℕ → Placed → Placed
+addTo s p = cond (fits s p) (record { at = p .at + length s; page = take (p .at) (p .page) ++ laid (drop (p .at) (p .page)) s }) p
+
+unfoldable pub addAll : List (List ℕ) → Placed → Placed
+addAll [] p = p
+addAll (s ∷ ss) p = addAll ss (addTo s p)
+
+-- THE CONTRACT of every call that adds text
+pub record Added (ss : List (List ℕ)) (at next : ℕ) (before after : List ℕ) : Type 0 where
+  pub all : record { at = next; page = after } ≡ addAll ss (record { at = at; page = before })
   -- what a caller needs: the page keeps its length, and a place within it stays so
   pub long : length after ≡ length before
   pub inside : at ≤ length before → next ≤ length before
 
--- a number in decimal, of the fewest digits
-pub record AddedNumber (n at next : ℕ) (before after : List ℕ) : Type 0 where
-  pub count : ℕ
-  pub fewest : Fewest 10 1 n count
-  pub added : Added (digits 10 count n) at next before after
+-- ---- what is added
+
+-- the digits of a number that has at most one more than so many
+unfoldable pub decimalFrom : ℕ → ℕ → List ℕ
+decimalFrom zero n = glyph n ∷ []
+decimalFrom (suc k) n = cond (ltb n 10) (glyph n ∷ []) (decimalFrom k (n / 10) ++ (glyph (n % 10) ∷ []))
+
+-- a number below 2^64 in decimal, most significant digit first and with no zero before it: at most 20 digits
+abbrev pub decimal : ℕ → List ℕ
+decimal n = decimalFrom 19 n
 
 -- a byte in hexadecimal
 abbrev pub hexOf : ℕ → List ℕ
 hexOf b = glyph (b / 16) ∷ glyph (b % 16) ∷ []
 
+-- what stands between two numbers, and at the end of a line
+abbrev pub space : List ℕ
+space = 32 ∷ []
+
+abbrev pub lineEnd : List ℕ
+lineEnd = 10 ∷ []
+
 -- " cut" and the end of the line
 abbrev pub cutWord : List ℕ
 cutWord = 32 ∷ 99 ∷ 117 ∷ 116 ∷ 10 ∷ []
-
--- a number, and then the word
-pub record AddedCut (n at next : ℕ) (before after : List ℕ) : Type 0 where
-  pub middle : ℕ
-  pub page : List ℕ
-  pub number : AddedNumber n at middle before page
-  pub word : Added cutWord middle next page after
-  pub long : length after ≡ length before

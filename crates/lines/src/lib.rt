@@ -2,12 +2,12 @@
 ghost use mathlib.Core.Path.{_≡_};
 ghost use Prim.Native.Nat.{_<_, _≤_};
 ghost use mathlib.Core.List.{[], _∷_};
-ghost use Rattle.lines.specs.Page.{Added, AddedNumber, AddedCut, hexOf};
+ghost use Rattle.lines.specs.Page.{Added, decimal, hexOf, space, cutWord};
 ghost use Rattle.io.specs.Digits.{glyph as glyphOf};
 
 // Adds text at a place of a page, and answers the place after it; where there is no room the page stays as it was.
 pub fn add_text(page: &mut [u8], at: usize, text: &[u8]) -> usize
-    ensures { λ r. ⌜ Added (now (text .entry)) at r (now (page .entry)) (now (page .exit)) ⌝ }
+    ensures { λ r. ⌜ Added (now (text .entry) ∷ []) at r (now (page .entry)) (now (page .exit)) ⌝ }
 {
     if page.len() < at {
         return at;
@@ -18,7 +18,7 @@ pub fn add_text(page: &mut [u8], at: usize, text: &[u8]) -> usize
 
 // Adds one byte.
 pub fn add_byte(page: &mut [u8], at: usize, byte: u8) -> usize
-    ensures { λ r. ⌜ Added (byte ∷ []) at r (now (page .entry)) (now (page .exit)) ⌝ }
+    ensures { λ r. ⌜ Added ((byte ∷ []) ∷ []) at r (now (page .entry)) (now (page .exit)) ⌝ }
 {
     if at < page.len() {
         page[at] = byte;
@@ -29,16 +29,24 @@ pub fn add_byte(page: &mut [u8], at: usize, byte: u8) -> usize
 
 // Adds a number in decimal.
 pub fn add_number(page: &mut [u8], at: usize, n: u64) -> usize
-    ensures { λ r. ⌜ AddedNumber n at r (now (page .entry)) (now (page .exit)) ⌝ }
+    ensures { λ r. ⌜ Added (decimal n ∷ []) at r (now (page .entry)) (now (page .exit)) ⌝ }
 {
     let mut text = [0u8; 20];
     let k = io::decimal(n, &mut text);
     add_text(page, at, &text[..k])
 }
 
+// Adds a space and a number.
+pub fn add_field(page: &mut [u8], at: usize, n: u64) -> usize
+    ensures { λ r. ⌜ Added (space ∷ decimal n ∷ []) at r (now (page .entry)) (now (page .exit)) ⌝ }
+{
+    let next = add_byte(page, at, b' ');
+    add_number(page, next, n)
+}
+
 // Adds a byte in hexadecimal, two digits.
 pub fn add_hex(page: &mut [u8], at: usize, byte: u8) -> usize
-    ensures { λ r. ⌜ Added (hexOf byte) at r (now (page .entry)) (now (page .exit)) ⌝ }
+    ensures { λ r. ⌜ Added (hexOf byte ∷ []) at r (now (page .entry)) (now (page .exit)) ⌝ }
 {
     let text = [glyph(byte / 16), glyph(byte % 16)];
     add_text(page, at, &text)
@@ -54,7 +62,7 @@ fn glyph(digit: u8) -> u8
 
 // Adds the line of an entry that is cut: its number and the word.
 pub fn add_cut(page: &mut [u8], at: usize, number: u64) -> usize
-    ensures { λ r. ⌜ AddedCut number at r (now (page .entry)) (now (page .exit)) ⌝ }
+    ensures { λ r. ⌜ Added (decimal number ∷ cutWord ∷ []) at r (now (page .entry)) (now (page .exit)) ⌝ }
 {
     let next = add_number(page, at, number);
     add_text(page, next, b" cut\n")

@@ -16,4 +16,5 @@ pub mod Cutting
 pub mod Paths
 mod Broken
 pub mod Refusing
+pub mod Records
 pub mod Histories

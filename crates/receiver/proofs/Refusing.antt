@@ -4,6 +4,7 @@ use Prim.Native.Nat.{ℕ, zero, suc, _+_, _≤_}
 use mathlib.Core.Path.{_≡_, refl, ap, _∙_}
 use mathlib.Core.Bool.{Bool, true, false, cond}
 use mathlib.Core.List.{List, [], _∷_}
+use native.Mathlib.Omega.{arith}
 use lib.Dec.{T, eqb, leb, ltb, lit≤}
 use lib.ListN.{length, getD, drop}
 use Rattle.paper.specs.Refusals.{none, short, tooLong, unexpected, badLength, truncated, notShortest, badCount, badField, badFlags, badRange, badOffset, trailing, noRoom}
@@ -28,7 +29,7 @@ use Rattle.receiver.proofs.Became.{Became, became, settles, touches, di
 
 pub record Numbered (n : ℕ) : Type 0 where
   pub low : 1 ≤ n
-  pub high : n ≤ 13
+  pub high : n ≤ 12
 
 abbrev pub Tame : {A : Type 0} → Got A → Type 0
 Tame (got a t) = Unit {0}
@@ -74,7 +75,7 @@ unfolding ended
 ended-tame e n a [] = tt
 ended-tame e n a (x ∷ t) = n
 
-num : (n : ℕ) → T (leb 1 n) → T (leb n 13) → Numbered n
+num : (n : ℕ) → T (leb 1 n) → T (leb n 12) → Numbered n
 num n l h = record { low = lit≤ l; high = lit≤ h }
 
 pub whole-tame : {A : Type 0} (f : Format A) → Tamed f → (l : List ℕ) → Tame (whole f trailing l)
@@ -226,7 +227,7 @@ headed-tame taken l =
     (by-test (eqb (lengthOf l) (length l)) (got (eventOf l) (drop headerBytes l)) (bad badLength) tt (num badLength tt tt))
     (num unexpected tt tt)))
 
-effect-tame : (r : Receiver) (l : List ℕ) → Tame (effect r l)
+pub effect-tame : (r : Receiver) (l : List ℕ) → Tame (effect r l)
 unfolding effect
 effect-tame r l = and-then (headed (takes r) l) (bodyEffect r) (headed-tame (takes r) l) by
   where
@@ -243,7 +244,7 @@ effect-tame r l = and-then (headed (takes r) l) (bodyEffect r) (headed-tame (tak
 refused-by : (r : Receiver) (before : List ℕ) (x : Got Effect) → Tame x → (answerAfter x (length before) .refusal ≡ none → ⊥)
     → Unchanged r before (receiverAfter r x (length before)) (answerAfter x (length before)) (left before (given (length before) (draftOf x)))
 unfolding receiverAfter answerAfter given
-refused-by r before (bad n) h u = record { receiver = refl; output = refl; others = refl; low = h .low; high = h .high }
+refused-by r before (bad n) h u = record { receiver = refl; output = refl; others = refl; low = h .low; high = omega (arith, h .high) }
 refused-by r before (got e t) h u = go (leb (length (e .bytes)) (length before)) u
   where
     go : (b : Bool) → (cond b (answerOf e) (refusal noRoom) .refusal ≡ none → ⊥)

@@ -230,7 +230,7 @@ module _ (rules : Rules) where
   verdict-weight m f ignored h = omega arith
   verdict-weight m f cancelled h = omega (arith, cancels-length (m .table) h, resting-count)
 
-  verdict-long : (m : Machine) (cs : List Contact) (v : Verdict) → length (m .table .states) ≡ contacts → length (machineAfter v rules m cs .table .states) ≡ contacts
+  pub verdict-long : (m : Machine) (cs : List Contact) (v : Verdict) → length (m .table .states) ≡ contacts → length (machineAfter v rules m cs .table .states) ≡ contacts
   verdict-long m cs injected h = after-long rules (m .table) cs h
   verdict-long m cs ignored h = h
   verdict-long m cs cancelled h = resting-whole .states

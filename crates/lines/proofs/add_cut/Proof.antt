@@ -1,7 +1,7 @@
 -- `lines::add_cut` meets its contract: a number, and then the word.
 -- Assumes nothing.
 use borrow.Author.Needs.{needs}
-use mathlib.Core.Path.{_∙_}
+use Rattle.lines.proofs.Adding.{added-then}
 use Rattle.lines.proofs.add_cut.Statement.{statement}
 use Rattle.lines.proofs.add_cut.Tie as tie
 
@@ -18,16 +18,7 @@ same-length : tie.Need-same-length
 same-length c = search needs
 
 returns : tie.Need-returns
-returns c =
-    let t = c .before .before .add-text in
-    let n = c .before .before .before .before .before .before .before .add-number in
-    record {
-      middle = n .result;
-      page = n .last .0;
-      number = n .ensures;
-      word = t .ensures;
-      long = t .ensures .long ∙ n .ensures .added .long;
-    }
+returns c = added-then (c .before .before .before .before .before .before .before .add-number .ensures) (c .before .before .add-text .ensures)
 
 pub add-cut-spec : {M : Type 1} → statement M
 add-cut-spec =

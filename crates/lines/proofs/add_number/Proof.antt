@@ -1,7 +1,11 @@
 -- `lines::add_number` meets its contract.
 -- Assumes nothing.
 use borrow.Author.Needs.{needs}
-use mathlib.Core.Path.{_≡_}
+use mathlib.Core.Path.{_≡_, _∙_}
+use native.Mathlib.Omega.{arith}
+use lib.ListN.{take}
+use Rattle.lines.specs.Page.{decimal}
+use Rattle.lines.proofs.Decimal.{decimal-digits}
 use Rattle.lines.proofs.add_number.Statement.{statement}
 use Rattle.lines.proofs.add_number.Tie as tie
 
@@ -23,7 +27,8 @@ same-length c = search needs
 returns : tie.Need-returns
 returns c =
     let d = c .before .before .before .before .before .decimal in
-    record { count = d .result; fewest = d .ensures .1 .0; added = rw (d .ensures .1 .1) at (c .before .before .add-text .ensures) }
+    let t : take (d .result) (d .last .1 .0) ≡ decimal _ = d .ensures .1 .1 ∙ decimal-digits _ _ (omega arith) (d .ensures .1 .0) in
+    rw t at (c .before .before .add-text .ensures)
 
 pub add-number-spec : {M : Type 1} → statement M
 add-number-spec =

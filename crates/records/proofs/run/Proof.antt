@@ -1,29 +1,26 @@
--- `records::run` is safe and ends: the measure is what is left of the numbers.
+-- `records::run` is safe and ends: the measure is what is left of the rounds.
 -- Assumes nothing.
-use Prim.Native.Nat.{_-_}
-use mathlib.Core.Path.{_≡_, refl}
 use borrow.Author.Needs.{needs}
+use mathlib.Core.Path.{_≡_, refl}
+use native.Mathlib.Omega.{arith}
 use lib.ListN.{length}
 use Rattle.records.proofs.run.Statement.{statement}
 use Rattle.records.proofs.run.Tie as tie
 
 abbrev Inv-loop : tie.InvT-loop
-Inv-loop space₀ output₀ receiver₀ window₀ left₀ space output receiver window left = (length space ≡ length space₀) × (length output ≡ length output₀)
+Inv-loop space₀ answers₀ output₀ round₀ left₀ space answers output round left = (length space ≡ length space₀) × (length answers ≡ length answers₀) × (length output ≡ length output₀)
 
 abbrev μ-loop : tie.MeasureT-loop
-μ-loop space₀ output₀ receiver₀ window₀ left₀ space output receiver window left = left
+μ-loop space₀ answers₀ output₀ round₀ left₀ space answers output round left = left
 
-fresh-requires : tie.Need-fresh-requires Inv-loop μ-loop
-fresh-requires c κs = search needs
-
-opened-requires : tie.Need-opened-requires Inv-loop μ-loop
-opened-requires c κs = search needs
+begin-requires : tie.Need-begin-requires Inv-loop μ-loop
+begin-requires c κs = search needs
 
 loop-holds : tie.Need-loop-holds Inv-loop μ-loop
-loop-holds c = (refl, refl)
+loop-holds c = (refl, refl, refl)
 
-turn-requires : tie.Need-turn-requires Inv-loop μ-loop
-turn-requires c κs = search needs
+go-on-requires : tie.Need-go-on-requires Inv-loop μ-loop
+go-on-requires c κs = search needs
 
 same-length : tie.Need-same-length Inv-loop μ-loop
 same-length c = search needs
@@ -31,8 +28,14 @@ same-length c = search needs
 same-length-2 : tie.Need-same-length-2 Inv-loop μ-loop
 same-length-2 c = search needs
 
+same-length-3 : tie.Need-same-length-3 Inv-loop μ-loop
+same-length-3 c = search needs
+
 returns : tie.Need-returns Inv-loop μ-loop
 returns c = search needs
+
+write-records-requires : tie.Need-write-records-requires Inv-loop μ-loop
+write-records-requires c κs = let g = c .before .before .before .before .before .before .before .before .before .go-on in omega (arith, g .ensures .fed .room, g .kept .1 .1 .1 .1 .0)
 
 sub-left : tie.Need-sub-left Inv-loop μ-loop
 sub-left c = search needs
@@ -43,11 +46,14 @@ loop-less c = search needs
 loop-again : tie.Need-loop-again Inv-loop μ-loop
 loop-again c = search needs
 
-same-length-3 : tie.Need-same-length-3 Inv-loop μ-loop
-same-length-3 c = search needs
-
 same-length-4 : tie.Need-same-length-4 Inv-loop μ-loop
 same-length-4 c = search needs
+
+same-length-5 : tie.Need-same-length-5 Inv-loop μ-loop
+same-length-5 c = search needs
+
+same-length-6 : tie.Need-same-length-6 Inv-loop μ-loop
+same-length-6 c = search needs
 
 returns-2 : tie.Need-returns-2 Inv-loop μ-loop
 returns-2 c = search needs
@@ -58,16 +64,18 @@ run-spec =
     (tie.spec
     Inv-loop
     μ-loop
-    fresh-requires
-    opened-requires
+    begin-requires
     loop-holds
-    turn-requires
+    go-on-requires
     same-length
     same-length-2
+    same-length-3
     returns
+    write-records-requires
     sub-left
     loop-less
     loop-again
-    same-length-3
     same-length-4
+    same-length-5
+    same-length-6
     returns-2)

@@ -10,7 +10,7 @@ mul-end : tie.Need-mul-end
 mul-end c = search needs
 
 slice-aggregate-write-all : tie.Need-slice-aggregate-write-all
-slice-aggregate-write-all c = sym (length-take-le _ (c .before .before .before .before .args .output .now) (c .before .if2 .taken))
+slice-aggregate-write-all c = sym (length-take-le _ (c .before .before .args .output .now) (c .before .before .pre))
 
 write-all-requires : tie.Need-write-all-requires
 write-all-requires c κs = search needs
@@ -18,13 +18,6 @@ write-all-requires c κs = search needs
 returns : tie.Need-returns
 returns c = search needs
 
-returns-2 : tie.Need-returns-2
-returns-2 c = search needs
-
-returns-3 : tie.Need-returns-3
-returns-3 c = search needs
-
 pub write-records-spec : {M : Type 1} → statement M
 write-records-spec =
-    tie.close
-    (tie.spec mul-end slice-aggregate-write-all write-all-requires returns returns-2 returns-3)
+    tie.close (tie.spec mul-end slice-aggregate-write-all write-all-requires returns)

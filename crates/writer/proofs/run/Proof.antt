@@ -1,29 +1,42 @@
--- `writer::run` is safe and ends: the measure is what is left of the numbers.
+-- `writer::run` is safe and ends: the numbers rise to the last.
 -- Assumes nothing.
+use borrow.Author.Needs.{needs}
 use Prim.Native.Nat.{_-_}
 use mathlib.Core.Path.{_≡_, refl}
-use borrow.Author.Needs.{needs}
+use native.Mathlib.Omega.{arith}
 use lib.ListN.{length}
+use Rattle.turns.specs.Turns.{Begins}
+use Rattle.turns.proofs.Laws.{rises}
 use Rattle.writer.proofs.run.Statement.{statement}
 use Rattle.writer.proofs.run.Tie as tie
 
 abbrev Inv-loop : tie.InvT-loop
-Inv-loop space₀ page₀ stand₀ number₀ space page stand number = (length space ≡ length space₀) × (length page ≡ length page₀)
+Inv-loop space₀ page₀ stand₀ space page stand = (length space ≡ length space₀) × (length page ≡ length page₀)
 
 abbrev μ-loop : tie.MeasureT-loop
-μ-loop space₀ page₀ stand₀ number₀ space page stand number = 18446744073709551615 - number
+μ-loop space₀ page₀ stand₀ space page stand = 18446744073709551615 - stand .number
 
-opened-requires : tie.Need-opened-requires Inv-loop μ-loop
-opened-requires c κs = search needs
+-- the entry that was found
+entry : (c : tie.After-known-told Inv-loop μ-loop) →
+    let t = c .before .before .before .before .before .before .before in
+    let g = c .before .turn .given .0 in
+    Begins (t .before .before .before .before .before .loop .stand) (length (t .next-turn .last .0)) (t .before .before .before .before .before .loop .page) (t .next-turn .last .1 .0) (g .0) (g .1 .0) (g .1 .1 .0)
+entry c = rw (c .before .turn .given .1) at (c .before .before .before .before .before .before .before .next-turn .ensures)
+
+begin-requires : tie.Need-begin-requires Inv-loop μ-loop
+begin-requires c κs = search needs
 
 loop-holds : tie.Need-loop-holds Inv-loop μ-loop
 loop-holds c = (refl, refl)
 
-turn-requires : tie.Need-turn-requires Inv-loop μ-loop
-turn-requires c κs = search needs
+next-turn-requires : tie.Need-next-turn-requires Inv-loop μ-loop
+next-turn-requires c κs = search needs
 
-write-out-requires : tie.Need-write-out-requires Inv-loop μ-loop
-write-out-requires c κs = search needs
+enum-known-turn : tie.Need-enum-known-turn Inv-loop μ-loop
+enum-known-turn c = search needs
+
+enum-told : tie.Need-enum-told Inv-loop μ-loop
+enum-told c = search needs
 
 same-length : tie.Need-same-length Inv-loop μ-loop
 same-length c = search needs
@@ -34,11 +47,25 @@ same-length-2 c = search needs
 returns : tie.Need-returns Inv-loop μ-loop
 returns c = search needs
 
-add-number : tie.Need-add-number Inv-loop μ-loop
-add-number c = search needs
+sub-add-writing : tie.Need-sub-add-writing Inv-loop μ-loop
+sub-add-writing c = entry (c .before) .order
+
+part-add-writing-start : tie.Need-part-add-writing-start Inv-loop μ-loop
+part-add-writing-start c = entry (c .before .before) .order
+
+part-add-writing-end : tie.Need-part-add-writing-end Inv-loop μ-loop
+part-add-writing-end c = entry (c .before .before) .inside
+
+add-writing-requires : tie.Need-add-writing-requires Inv-loop μ-loop
+add-writing-requires c κs = search needs
+
+end-line-requires : tie.Need-end-line-requires Inv-loop μ-loop
+end-line-requires c κs = search needs
 
 loop-less : tie.Need-loop-less Inv-loop μ-loop
-loop-less c = search needs
+loop-less c =
+    let k = c .before .before .before .before .before .before .before .before .before .before in
+    omega (arith, rises _ _ _ (entry k .number) (c .before .before .end-line .ensures .number) (k .before .before .before .before .before .before .before .before .before .before .if1 .taken))
 
 loop-again : tie.Need-loop-again Inv-loop μ-loop
 loop-again c = search needs
@@ -58,14 +85,19 @@ run-spec =
     (tie.spec
     Inv-loop
     μ-loop
-    opened-requires
+    begin-requires
     loop-holds
-    turn-requires
-    write-out-requires
+    next-turn-requires
+    enum-known-turn
+    enum-told
     same-length
     same-length-2
     returns
-    add-number
+    sub-add-writing
+    part-add-writing-start
+    part-add-writing-end
+    add-writing-requires
+    end-line-requires
     loop-less
     loop-again
     same-length-3

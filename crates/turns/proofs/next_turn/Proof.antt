@@ -1,16 +1,20 @@
--- `plain::turn` is safe: an entry's message lies within the space.
+-- `turns::next_turn` meets its contract: an entry's message lies within the space.
 -- Assumes nothing.
 use borrow.Author.Needs.{needs}
-use Prim.Native.Nat.{_+_, _≤_}
+use Prim.Native.Nat.{_+_, _^_, _≤_, _<_}
+use mathlib.Core.Path.{refl}
 use native.Mathlib.Omega.{arith}
 use lib.ListN.{length}
 use Rattle.feed.specs.Within.{Entered}
-use Rattle.plain.proofs.turn.Statement.{statement}
-use Rattle.plain.proofs.turn.Tie as tie
+use Rattle.turns.proofs.next_turn.Statement.{statement}
+use Rattle.turns.proofs.next_turn.Tie as tie
 
 -- the message that was found
 found : (c : tie.After-known-told) → Entered (length (c .before .before .before .before .before .next-entry .last .0)) (c .before .next .given .0 .0) (c .before .next .given .0 .1 .0) (c .before .next .given .0 .1 .1 .0)
 found c = rw (c .before .next .given .1) at (c .before .before .before .before .before .next-entry .ensures)
+
+short : (c : tie.After-known-told) → length (c .before .before .before .before .before .next-entry .last .0) < 2 ^ 64
+short c = let n = c .before .before .before .before .before in let s = n .before .before .before .before .before in omega (arith, n .next-entry .kept .0)
 
 next-entry-requires : tie.Need-next-entry-requires
 next-entry-requires c κs = search needs
@@ -30,29 +34,11 @@ same-length-2 c = search needs
 returns : tie.Need-returns
 returns c = search needs
 
-add-end : tie.Need-add-end
-add-end c = omega (arith, found c .message)
-
 add-number-requires : tie.Need-add-number-requires
 add-number-requires c κs = search needs
 
-sub-add-reading : tie.Need-sub-add-reading
-sub-add-reading c = search needs
-
-part-add-reading-start : tie.Need-part-add-reading-start
-part-add-reading-start c = search needs
-
-part-add-reading-end : tie.Need-part-add-reading-end
-part-add-reading-end c = found (c .before .before .before .before .before .before) .message
-
-add-reading-requires : tie.Need-add-reading-requires
-add-reading-requires c κs = search needs
-
-add-byte-requires : tie.Need-add-byte-requires
-add-byte-requires c κs = search needs
-
-turn-over-requires : tie.Need-turn-over-requires
-turn-over-requires c κs = search needs
+add-t15 : tie.Need-add-t15
+add-t15 c = let k = c .before .before .before .before in omega (arith, found k .message, short k)
 
 same-length-3 : tie.Need-same-length-3
 same-length-3 c = search needs
@@ -61,10 +47,12 @@ same-length-4 : tie.Need-same-length-4
 same-length-4 c = search needs
 
 returns-2 : tie.Need-returns-2
-returns-2 c = search needs
+returns-2 c =
+    let k = c .before .before .before .before in
+    record { order = omega arith; inside = found k .message; number = refl; line = c .before .before .add-number .ensures }
 
-pub turn-spec : {M : Type 1} → statement M
-turn-spec =
+pub next-turn-spec : {M : Type 1} → statement M
+next-turn-spec =
     tie.close
     (tie.spec
     next-entry-requires
@@ -73,14 +61,8 @@ turn-spec =
     same-length
     same-length-2
     returns
-    add-end
     add-number-requires
-    sub-add-reading
-    part-add-reading-start
-    part-add-reading-end
-    add-reading-requires
-    add-byte-requires
-    turn-over-requires
+    add-t15
     same-length-3
     same-length-4
     returns-2)

@@ -1,0 +1,72 @@
+-- `feed::fill` meets its contract: what was read and not yet handed out is kept.
+-- Assumes nothing.
+use borrow.Author.Needs.{needs}
+use native.Mathlib.Omega.{arith}
+use Rattle.feed.proofs.Moving.{filled-none, filled-same, filled-on}
+use Rattle.feed.proofs.fill.Statement.{statement}
+use Rattle.feed.proofs.fill.Tie as tie
+
+opened-requires : tie.Need-opened-requires
+opened-requires c κs = search needs
+
+returns : tie.Need-returns
+returns c = filled-none _ _ _ (c .opened .ensures) (λ i. omega (arith, i .inside))
+
+opened-requires-2 : tie.Need-opened-requires-2
+opened-requires-2 c κs = search needs
+
+returns-2 : tie.Need-returns-2
+returns-2 c = filled-none _ _ _ (c .opened2 .ensures) (λ i. omega (arith, i .order))
+
+part-read-front-start : tie.Need-part-read-front-start
+part-read-front-start c = search needs
+
+part-read-front-end : tie.Need-part-read-front-end
+part-read-front-end c = search needs
+
+read-front-requires : tie.Need-read-front-requires
+read-front-requires c κs = search needs
+
+enum-told : tie.Need-enum-told
+enum-told c = search needs
+
+same-length : tie.Need-same-length
+same-length c = search needs
+
+returns-3 : tie.Need-returns-3
+returns-3 c = filled-same _ _ (record { order = omega arith; inside = omega arith })
+
+enum-told-2 : tie.Need-enum-told-2
+enum-told-2 c = search needs
+
+moved-requires : tie.Need-moved-requires
+moved-requires c κs = search needs
+
+read-on-requires : tie.Need-read-on-requires
+read-on-requires c κs = search needs
+
+same-length-2 : tie.Need-same-length-2
+same-length-2 c = search needs
+
+returns-4 : tie.Need-returns-4
+returns-4 c = filled-on _ _ _ _ _ _ (c .before .before .before .before .before .before .moved .ensures) (c .before .before .read-on .ensures)
+
+pub fill-spec : {M : Type 1} → statement M
+fill-spec =
+    tie.close
+    (tie.spec
+    opened-requires
+    returns
+    opened-requires-2
+    returns-2
+    part-read-front-start
+    part-read-front-end
+    read-front-requires
+    enum-told
+    same-length
+    returns-3
+    enum-told-2
+    moved-requires
+    read-on-requires
+    same-length-2
+    returns-4)

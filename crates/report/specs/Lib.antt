@@ -1,0 +1,2 @@
+-- The lines of a bench file.
+pub mod Report

@@ -1,0 +1,2 @@
+-- Rounds of a run over a bench file.
+pub mod Rounds

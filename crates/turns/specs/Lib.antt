@@ -1,0 +1,2 @@
+-- Turns of a run over entries.
+pub mod Turns

@@ -1,4 +1,4 @@
-/* The session host's end of the touch channel of [MS-RDPEI], for C and for what links like C.
+/* The session host's end of the touch channel of [MS-RDPEI], for C11, for C++11, and for what links like C.
  *
  * Every call takes every input and ends. It reads and writes nothing but what it is lent, keeps nothing between calls, asks for no
  * memory, and is proved to do what its comment says. Bad input is refused by a number of the table below: a refusal has 0 in every

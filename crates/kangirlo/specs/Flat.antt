@@ -4,6 +4,7 @@ use mathlib.Core.Bool.{cond}
 use mathlib.Core.List.{List}
 use lib.IntN.{pos}
 use Rattle.paper.specs.Refusals.{none, badRecord}
+use Rattle.paper.specs.declared.Microseconds.{Microseconds}
 use Rattle.house.specs.Layout.{head, recordOf}
 use Rattle.house.specs.WellFormed.{wellFormed}
 use Rattle.house.specs.declared.Head.{Head}
@@ -12,12 +13,12 @@ use Rattle.house.specs.declared.Record.{Record}
 use Rattle.house.specs.declared.Record.the-variants as Record
 use Rattle.kangirlo.specs.declared.FlatRecord.{FlatRecord}
 
--- "A refusal answers its number with all other fields 0"
-abbrev pub refused : ℕ → FlatRecord
-refused e = record {
-  refusal = e;
-  kind = 0;
-  count = 0;
+-- with no contact in it: kind 0, which is a head's, and every field of a contact 0
+abbrev pub bare : ℕ → ℕ → Microseconds → FlatRecord
+bare refusal count offset = record {
+  refusal = refusal;
+  kind = head;
+  count = count;
   flags = 0;
   present = 0;
   id = 0;
@@ -29,28 +30,16 @@ refused e = record {
   bottom = pos 0;
   x = pos 0;
   y = pos 0;
-  offset = record { 0 = 0 };
+  offset = offset;
 }
 
--- "Head: kind 0 (2 bits), contact count (6), offset (61)": a contact's fields are 0
+-- "A refusal answers its number with all other fields 0"
+abbrev pub refused : ℕ → FlatRecord
+refused e = bare e 0 (record { 0 = 0 })
+
+-- "Head: kind 0 (2 bits), contact count (6), offset (61)"
 abbrev pub flatHead : Head → FlatRecord
-flatHead h = record {
-  refusal = none;
-  kind = head;
-  count = h .count;
-  flags = 0;
-  present = 0;
-  id = 0;
-  orientation = 0;
-  pressure = 0;
-  left = pos 0;
-  top = pos 0;
-  right = pos 0;
-  bottom = pos 0;
-  x = pos 0;
-  y = pos 0;
-  offset = h .offset;
-}
+flatHead h = bare none (h .count) (h .offset)
 
 -- "Contact: kind (2), flags (6), fieldsPresent (3), id (8), x (30), y (30), left, top, right, bottom (15 each), orientation (9),
 -- pressure (16)": a head's fields are 0

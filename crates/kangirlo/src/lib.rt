@@ -15,7 +15,7 @@ ghost use Rattle.messages.specs.Bodies.{serverReadyDraft, clientReadyDraft, sus
 ghost use Rattle.reading.specs.Plain.{ReadsPlainly};
 ghost use Rattle.writing.specs.TouchDraft.{touchDraft};
 ghost use Rattle.receiver.specs.Receive.{fresh, Receives};
-ghost use Rattle.kangirlo.specs.Flat.{flat, flattened, flatHead, flatContact, refused as refusedRecord};
+ghost use Rattle.kangirlo.specs.Flat.{flat, flattened, bare, flatHead, flatContact, refused as refusedRecord};
 
 // A record as numbers alone, since an enum does not cross to C. What its kind does not have is 0.
 #[repr(C)]
@@ -123,36 +123,14 @@ pub extern "C" fn kangirlo_write_dismiss(output: &mut [u8], id: u8) -> Written
     messages::write_dismiss(output, id)
 }
 
-fn refused(refusal: u8) -> FlatRecord
-    ensures { λ r. ⌜ r ≡ refusedRecord refusal ⌝ }
+// A record with no contact in it: a refusal's or a head's.
+fn bare_record(refusal: u8, count: u8, offset: Microseconds) -> FlatRecord
+    ensures { λ r. ⌜ r ≡ bare refusal count offset ⌝ }
 {
     FlatRecord {
         refusal: refusal,
-        kind: 0,
-        count: 0,
-        flags: 0,
-        present: 0,
-        id: 0,
-        orientation: 0,
-        pressure: 0,
-        left: 0,
-        top: 0,
-        right: 0,
-        bottom: 0,
-        x: 0,
-        y: 0,
-        offset: Microseconds(0),
-    }
-}
-
-fn flatten_head(head: Head) -> FlatRecord
-    ensures { λ r. ⌜ r ≡ flatHead head ⌝ }
-{
-    let offset = head.offset;
-    FlatRecord {
-        refusal: 0,
         kind: house::HEAD,
-        count: head.count,
+        count: count,
         flags: 0,
         present: 0,
         id: 0,
@@ -166,6 +144,19 @@ fn flatten_head(head: Head) -> FlatRecord
         y: 0,
         offset: offset,
     }
+}
+
+fn refused(refusal: u8) -> FlatRecord
+    ensures { λ r. ⌜ r ≡ refusedRecord refusal ⌝ }
+{
+    bare_record(refusal, 0, Microseconds(0))
+}
+
+fn flatten_head(head: Head) -> FlatRecord
+    ensures { λ r. ⌜ r ≡ flatHead head ⌝ }
+{
+    let offset = head.offset;
+    bare_record(0, head.count, offset)
 }
 
 fn flatten_contact(kind: u8, contact: Contact) -> FlatRecord

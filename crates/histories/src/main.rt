@@ -1,0 +1,41 @@
+// Bench files with other settings and other ends than the bench program's own, since a receiver takes one client ready: for each
+// file that an argument names its name, and the lines of its entries, fed to a fresh receiver.
+
+// One argument's file.
+fn print_argument(
+    i: usize,
+    space: &mut [u8],
+    answers: &mut [u32],
+    output: &mut [u8],
+    page: &mut [u8],
+) {
+    let mut path = io::buffer();
+    let n = os::arg(i, &mut path);
+    let input = os::open_read(&path[..n]);
+    if input < 0 {
+        os::fail(&path[..n]);
+        return;
+    }
+    io::write_all(libc::STDOUT_FILENO, &path[..n]);
+    io::write_all(libc::STDOUT_FILENO, b"\n");
+    report::print_file(input, space, answers, output, page);
+    libc::close(input);
+}
+
+// Argument 0 is the program's own name.
+fn run(space: &mut [u8], answers: &mut [u32], output: &mut [u8], page: &mut [u8]) {
+    let count = os::arg_count();
+    let mut i: usize = 1;
+    while i < count {
+        print_argument(i, space, answers, output, page);
+        i += 1;
+    }
+}
+
+fn main() {
+    let mut space = [0u8; 131072];
+    let mut answers = [0u32; 3072];
+    let mut output = [0u8; 98304];
+    let mut page = [0u8; 65536];
+    run(&mut space, &mut answers, &mut output, &mut page);
+}

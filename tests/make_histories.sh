@@ -1,13 +1,15 @@
 #!/bin/sh
-# Makes what the program `histories` is run on and must write: the names of its bench files as arguments, and for each its name
-# and the lines that the independent implementation printed for it, kept in histories/.
-cd "$(dirname "$0")" || exit 2
-crate=../crates/histories
-: >"$crate/args"
-: >"$crate/stdout"
-for expected in histories/*.stdout; do
-    file=$(basename "$expected" .stdout).bench
-    echo "$file" >>"$crate/args"
-    echo "$file" >>"$crate/stdout"
-    cat "$expected" >>"$crate/stdout"
+# make_histories.sh DIR: makes what the program `histories` is run on and must write, of the further histories that make_bench.py put into DIR:
+# the bench files, their names as arguments, and for each its name and the lines that the independent implementation printed for it.
+more=$(cd "$1" && pwd) || exit 2
+cd "$(dirname "$0")/../crates/histories" || exit 2
+mkdir -p data
+: >args
+: >stdout
+for expected in "$more"/*.stdout; do
+    name=$(basename "$expected" .stdout)
+    cp "$more/$name.stdin" "data/$name.bench"
+    echo "$name.bench" >>args
+    echo "$name.bench" >>stdout
+    cat "$expected" >>stdout
 done

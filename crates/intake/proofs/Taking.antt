@@ -19,13 +19,14 @@ use Rattle.entries.specs.declared.Front.the-variants as Front
 use Rattle.entries.proofs.Laws.{front-inside}
 use Rattle.house.specs.Fields.{recordBytes}
 use Rattle.contacts.specs.Table.{contacts}
-use Rattle.receiver.specs.History.{Sent, next, wrote, after, written}
+use Rattle.receiver.specs.Receive.{Receives}
+use Rattle.receiver.specs.History.{Sent, next, answerTo, wrote, after, written}
 use Rattle.receiver.specs.declared.Receiver.{Receiver}
 use Rattle.receiver.specs.declared.Answer.{Answer}
+use Rattle.receiver.proofs.Histories.{a-step-of-the-contract-is-a-step-of-a-history}
 use Rattle.receiver.proofs.Records.{records-written, wrote-room, wrote-small, next-long}
-use Rattle.intake.specs.declared.Taken.{Taken}
 use Rattle.intake.specs.declared.Fed.{Fed}
-use Rattle.intake.specs.Feeding.{nextIn, sentFrom, withEntry, fedFrom, bytesOf, answerNumbers, numbersOf, answersTo, started, Feeds, TakesEntries, Received, TakesBy, TakesEntry}
+use Rattle.intake.specs.Feeding.{nextIn, sentFrom, withEntry, fedFrom, bytesOf, answerNumbers, numbersOf, answersTo, Feeds, TakesEntries}
 
 -- ---- the entry at the front
 
@@ -50,7 +51,7 @@ next-room least file room n e = go (leb least room) refl e
 next-inside : (least : ℕ) (file : List ℕ) (room n : ℕ) → nextIn least file room ≡ Front.Entry n → 2 + n ≤ length file
 next-inside least file room n e = front-inside file n (next-front least file room n e)
 
-pub message-long : (file : List ℕ) (n : ℕ) → 2 + n ≤ length file → length (take n (drop 2 file)) ≡ n
+message-long : (file : List ℕ) (n : ℕ) → 2 + n ≤ length file → length (take n (drop 2 file)) ≡ n
 message-long file n h = length-take-le n (drop 2 file) (omega (arith, length-drop 2 file))
 
 -- ---- the entries that are fed
@@ -113,6 +114,10 @@ pub record Underway (r : Receiver) (h : List Sent) (a₀ o₀ : List ℕ) (f : F
   pub answers : laidAt a (answerNumbers * f .entries) (answersTo (f .receiver) more) ≡ laid a₀ (answersTo r h)
   pub output : laidAt o (recordBytes * f .records) (written (f .receiver) more) ≡ laid o₀ (written r h)
 
+-- nothing is fed yet
+abbrev pub started : Receiver → Fed
+started r = record { receiver = r; entries = 0; used = 0; records = 0 }
+
 underway-first : (r : Receiver) (h : List Sent) (a o : List ℕ) → Underway r h a o (started r) a o h
 underway-first r h a o =
     record { receiver = refl; entries = omega arith; used = omega arith; records = omega arith; answers = refl; output = refl }
@@ -129,32 +134,36 @@ underway-last r h a₀ o₀ f a o u =
       output = sym (laid-none o (recordBytes * f .records)) ∙ u .output;
     }
 
--- one more entry
-abbrev pub withTaken : Fed → Taken → Fed
-withTaken f t = record { receiver = t .receiver; entries = f .entries + 1; used = f .used + t .used; records = f .records + t .answer .records }
+-- one more entry, of a message of n bytes: the receiver after it, and its answer
+abbrev pub withEntryOf : Fed → ℕ → Receiver → Answer → Fed
+withEntryOf f n q b = record { receiver = q; entries = f .entries + 1; used = f .used + 2 + n; records = f .records + b .records }
 
-module _ (r : Receiver) (h : List Sent) (a₀ o₀ : List ℕ) (f : Fed) (a o : List ℕ) (x : Sent) (more : List Sent) (u : Underway r h a₀ o₀ f a o (x ∷ more)) (t : Taken) (l m : List ℕ)
-    (q : Received (f .receiver) x (midOf (recordBytes * f .records) (length o - recordBytes * f .records) o) t l)
-    (em : m ≡ laid (midOf (answerNumbers * f .entries) (length a - answerNumbers * f .entries) a) (numbersOf (t .answer)))
+-- a message of a history, received: the receiver after it, the answer, and what is left of the output
+record Step (r : Receiver) (x : Sent) (before : List ℕ) (q : Receiver) (b : Answer) (l : List ℕ) : Type 0 where
+  receiver : q ≡ next r x
+  answer : b ≡ answerTo r x
+  output : l ≡ laid before (wrote r x)
+
+module _ (r : Receiver) (h : List Sent) (a₀ o₀ : List ℕ) (f : Fed) (a o : List ℕ) (x : Sent) (more : List Sent) (u : Underway r h a₀ o₀ f a o (x ∷ more)) (n : ℕ) (q : Receiver) (b : Answer) (l m : List ℕ)
+    (k : Step (f .receiver) x (midOf (recordBytes * f .records) (length o - recordBytes * f .records) o) q b l)
+    (long : length (x .message) ≡ n)
+    (em : m ≡ laid (midOf (answerNumbers * f .entries) (length a - answerNumbers * f .entries) a) (numbersOf b))
     (room : recordBytes * f .records + length (wrote (f .receiver) x ++ written (next (f .receiver) x) more) ≤ length o)
-    (list : answerNumbers * f .entries + length (numbersOf (t .answer) ++ answersTo (next (f .receiver) x) more) ≤ length a) where
-  taken-records : recordBytes * t .answer .records ≡ length (wrote (f .receiver) x)
-  taken-records = ap (λ (b : Answer). recordBytes * b .records) (q .answer) ∙ records-written (f .receiver) x
-
-  underway-next : Underway r h a₀ o₀ (withTaken f t) (putMid (answerNumbers * f .entries) (length a - answerNumbers * f .entries) a m) (putMid (recordBytes * f .records) (length o - recordBytes * f .records) o l) more
+    (list : answerNumbers * f .entries + length (numbersOf b ++ answersTo (next (f .receiver) x) more) ≤ length a) where
+  underway-next : Underway r h a₀ o₀ (withEntryOf f n q b) (putMid (answerNumbers * f .entries) (length a - answerNumbers * f .entries) a m) (putMid (recordBytes * f .records) (length o - recordBytes * f .records) o l) more
   unfolding after written answersTo bytesOf
   underway-next =
-      let e = taken-records in
-      let wa = wrote-on a (answerNumbers * f .entries) answerNumbers m (numbersOf (t .answer)) (answersTo (next (f .receiver) x) more) em refl list in
-      let wo = wrote-on o (recordBytes * f .records) (recordBytes * t .answer .records) l (wrote (f .receiver) x) (written (next (f .receiver) x) more) (q .output) e room in
-      let same = ap (λ (b : Answer). laidAt a (answerNumbers * f .entries) (numbersOf b ++ answersTo (next (f .receiver) x) more)) (q .answer) in
+      let e : recordBytes * b .records ≡ length (wrote (f .receiver) x) = ap (λ (c : Answer). recordBytes * c .records) (k .answer) ∙ records-written (f .receiver) x in
+      let wa = wrote-on a (answerNumbers * f .entries) answerNumbers m (numbersOf b) (answersTo (next (f .receiver) x) more) em refl list in
+      let wo = wrote-on o (recordBytes * f .records) (recordBytes * b .records) l (wrote (f .receiver) x) (written (next (f .receiver) x) more) (k .output) e room in
+      let same = ap (λ (c : Answer). laidAt a (answerNumbers * f .entries) (numbersOf c ++ answersTo (next (f .receiver) x) more)) (k .answer) in
       let ka : answerNumbers * (f .entries + 1) ≡ answerNumbers * f .entries + answerNumbers = omega arith in
-      let ko : recordBytes * (f .records + t .answer .records) ≡ recordBytes * f .records + recordBytes * t .answer .records = omega arith in
-      rw (q .receiver)
+      let ko : recordBytes * (f .records + b .records) ≡ recordBytes * f .records + recordBytes * b .records = omega arith in
+      rw (k .receiver)
       (record {
         receiver = u .receiver;
         entries = omega (arith, u .entries);
-        used = omega (arith, u .used, q .used);
+        used = omega (arith, u .used, long);
         records = omega (arith, u .records, length-append (wrote (f .receiver) x) (written (next (f .receiver) x) more));
         answers = rw ka (wa .same ∙ (same ∙ u .answers));
         output = rw ko (wo .same ∙ u .output);
@@ -188,11 +197,10 @@ stands-first least r file a o h =
       under = simp sub-zero (underway-first r (fedFrom least (length a / answerNumbers) r file (length o)) a o);
     }
 
--- what is taken next lies within the file and the output, and its answer is small
-pub record Bounded (file o : List ℕ) (f : Fed) (t : Taken) : Type 0 where
-  pub used : f .used + t .used ≤ length file
-  pub records : recordBytes * (f .records + t .answer .records) ≤ length o
-  pub small : t .answer .records ≤ 2340
+-- an answer and its records lie within the output, and they are few
+pub record Bounded (o : List ℕ) (f : Fed) (b : Answer) : Type 0 where
+  pub records : recordBytes * (f .records + b .records) ≤ length o
+  pub small : b .records ≤ 2340
 
 module _ (least : ℕ) (r : Receiver) (file a₀ o₀ : List ℕ) (f : Fed) (a o : List ℕ) (s : Stands least r file a₀ o₀ f a o) where
   -- nothing is to come
@@ -215,122 +223,123 @@ module _ (least : ℕ) (r : Receiver) (file a₀ o₀ : List ℕ) (f : Fed) (a o
   abbrev rest : List ℕ
   rest = midOf (f .used) (length file - f .used) file
 
+  abbrev room : ℕ
+  room = length o - recordBytes * f .records
+
   abbrev space : List ℕ
   space = midOf (recordBytes * f .records) (length o - recordBytes * f .records) o
 
-  space-long : length space ≡ length o - recordBytes * f .records
+  space-long : length space ≡ room
   space-long = ap length (tail-is o (recordBytes * f .records)) ∙ length-drop (recordBytes * f .records) o
 
-  module _ (t : Taken) (l : List ℕ) (k : TakesEntry least (f .receiver) rest space t l) where
-    pub bounded : Bounded file o f t
-    bounded = go (nextIn least rest (length space)) refl (k .takes)
-      where
-        go : (p : Front) → nextIn least rest (length space) ≡ p → TakesBy p (f .receiver) rest space t l → Bounded file o f t
-        go (Front.Entry n) e q =
-            let x = sentFrom n rest (length space) in
-            let i = next-inside least rest (length space) n e in
-            let w = records-written (f .receiver) x in
-            let v = ap (λ (b : Answer). b .records) (q .answer) in
-            let g = ap length (tail-is file (f .used)) ∙ length-drop (f .used) file in
-            record {
-              used = omega (arith, s .used, q .used, message-long rest n i);
-              records = omega (arith, s .records, wrote-room (f .receiver) x, space-long);
-              small = omega (arith, wrote-small (f .receiver) (s .states) x);
-            }
-        go Front.Part e q =
-            rw (q .0) (record { used = omega (arith, s .used); records = omega (arith, s .records); small = omega arith })
+  at-rest : (p : Front) → nextIn least rest room ≡ p → nextIn least (drop (f .used) file) room ≡ p
+  at-rest p e = (λ i. nextIn least (sym (tail-is file (f .used)) i) room) ∙ e
 
-    -- nothing was taken
-    pub stands-stop : t .used ≡ 0 → TakesEntries least r file f a₀ a o₀ (putMid (recordBytes * f .records) (length o - recordBytes * f .records) o l)
-    stands-stop z = go (nextIn least rest (length space)) refl (k .takes)
-      where
-        go : (p : Front) → nextIn least rest (length space) ≡ p → TakesBy p (f .receiver) rest space t l
-            → TakesEntries least r file f a₀ a o₀ (putMid (recordBytes * f .records) (length o - recordBytes * f .records) o l)
-        go (Front.Entry n) e q = absurd (omega (arith, q .used))
-        go Front.Part e q =
-            let b : putMid (recordBytes * f .records) (length o - recordBytes * f .records) o l ≡ o =
-            rw (q .1) (put-back o [] (recordBytes * f .records) ∙ laid-none o (recordBytes * f .records)) in
-            let c : nextIn least (drop (f .used) file) (length o - recordBytes * f .records) ≡ Front.Part = (λ i. nextIn least (sym (tail-is file (f .used)) i) (sym space-long i)) ∙ e in
-            rw b (stopped (fed-none least _ (f .receiver) (drop (f .used) file) (length o - recordBytes * f .records) c))
+  pub stands-stop : nextIn least rest room ≡ Front.Part → TakesEntries least r file f a₀ a o₀ o
+  stands-stop e = stopped (fed-none least _ (f .receiver) (drop (f .used) file) room (at-rest Front.Part e))
 
-    -- an entry was taken, and its answer, m, is put where the list comes to
-    module _ (m : List ℕ) (places : f .entries < length a₀ / answerNumbers)
-        (em : m ≡ laid (midOf (answerNumbers * f .entries) (length a - answerNumbers * f .entries) a) (numbersOf (t .answer))) where
-      abbrev a′ : List ℕ
-      a′ = putMid (answerNumbers * f .entries) (length a - answerNumbers * f .entries) a m
+  -- an entry at the front, of a message of n bytes
+  module _ (n : ℕ) (e : nextIn least rest room ≡ Front.Entry n) where
+    pub found-inside : f .used + 2 + n ≤ length file
+    found-inside = omega (arith, s .used, next-inside least (drop (f .used) file) room n (at-rest (Front.Entry n) e), length-drop (f .used) file)
 
-      abbrev o′ : List ℕ
-      o′ = putMid (recordBytes * f .records) (length o - recordBytes * f .records) o l
+    abbrev message : List ℕ
+    message = take (f .used + 2 + n - (f .used + 2)) (drop (f .used + 2) file)
 
-      abbrev left : ℕ
-      left = length a₀ / answerNumbers - (f .entries + 1)
+    abbrev x : Sent
+    x = sentFrom n (drop (f .used) file) room
 
-      module _ (n : ℕ) (e : nextIn least rest (length space) ≡ Front.Entry n) (q : Received (f .receiver) (sentFrom n rest (length space)) space t l) where
-        abbrev x : Sent
-        x = sentFrom n rest (length space)
+    message-is : message ≡ x .message
+    message-is = let z : f .used + 2 + n - (f .used + 2) ≡ n = omega arith in λ i. take (z i) (sym (drop-drop 2 (f .used) file) i)
+
+    x-long : length (x .message) ≡ n
+    x-long = message-long (drop (f .used) file) n (next-inside least (drop (f .used) file) room n (at-rest (Front.Entry n) e))
+
+    module _ (q : Receiver) (b : Answer) (l : List ℕ) (k : Receives (f .receiver) message space q b l) where
+      step : Step (f .receiver) x space q b l
+      step =
+          let h = a-step-of-the-contract-is-a-step-of-a-history (f .receiver) message space q b l k in
+          let same : record { message = message; room = length space } ≡ x = λ i. record { message = message-is i; room = space-long i } in
+          record {
+            receiver = h .0 ∙ ap (next (f .receiver)) same;
+            answer = h .1 ∙ ap (answerTo (f .receiver)) same;
+            output = h .2 ∙ ap (λ (y : Sent). laid space (wrote (f .receiver) y)) same;
+          }
+
+      count-is : recordBytes * b .records ≡ length (wrote (f .receiver) x)
+      count-is = ap (λ (c : Answer). recordBytes * c .records) (step .answer) ∙ records-written (f .receiver) x
+
+      pub bounded : Bounded o f b
+      bounded =
+          record {
+            records = omega (arith, s .records, count-is, wrote-room (f .receiver) x);
+            small = omega (arith, count-is, wrote-small (f .receiver) (s .states) x);
+          }
+
+      -- its answer, m, is put where the list comes to
+      module _ (m : List ℕ) (places : f .entries < length a₀ / answerNumbers)
+          (em : m ≡ laid (midOf (answerNumbers * f .entries) (length a - answerNumbers * f .entries) a) (numbersOf b)) where
+        abbrev a′ : List ℕ
+        a′ = putMid (answerNumbers * f .entries) (length a - answerNumbers * f .entries) a m
+
+        abbrev o′ : List ℕ
+        o′ = putMid (recordBytes * f .records) (length o - recordBytes * f .records) o l
+
+        abbrev left : ℕ
+        left = length a₀ / answerNumbers - (f .entries + 1)
 
         abbrev more : List Sent
-        more = fedFrom least left (next (f .receiver) x) (drop (n + 2) rest) (length space - length (wrote (f .receiver) x))
+        more = fedFrom least left (next (f .receiver) x) (drop (n + 2) (drop (f .used) file)) (room - length (wrote (f .receiver) x))
 
         came : coming least (length a₀ / answerNumbers) file f (length o) ≡ x ∷ more
         came =
             let p : length a₀ / answerNumbers - f .entries ≡ suc left = omega (arith, places) in
-            (λ i. fedFrom least (p i) (f .receiver) (sym (tail-is file (f .used)) i) (sym space-long i)) ∙ fed-more least left (f .receiver) rest (length space) n e
+            ap (λ (j : ℕ). fedFrom least j (f .receiver) (drop (f .used) file) room) p ∙ fed-more least left (f .receiver) (drop (f .used) file) room n (at-rest (Front.Entry n) e)
 
         room-left : recordBytes * f .records + length (wrote (f .receiver) x ++ written (next (f .receiver) x) more) ≤ length o
         room-left =
             omega (
               arith,
               s .records,
-              space-long,
               wrote-room (f .receiver) x,
               length-append (wrote (f .receiver) x) (written (next (f .receiver) x) more),
-              fed-room least left (next (f .receiver) x) (drop (n + 2) rest) (length space - length (wrote (f .receiver) x)),
+              fed-room least left (next (f .receiver) x) (drop (n + 2) (drop (f .used) file)) (room - length (wrote (f .receiver) x)),
             )
 
-        list-left : answerNumbers * f .entries + length (numbersOf (t .answer) ++ answersTo (next (f .receiver) x) more) ≤ length a
+        list-left : answerNumbers * f .entries + length (numbersOf b ++ answersTo (next (f .receiver) x) more) ≤ length a
         list-left =
             omega (
               arith,
               places,
               s .list,
               answers-long (next (f .receiver) x) more,
-              fed-few least left (next (f .receiver) x) (drop (n + 2) rest) (length space - length (wrote (f .receiver) x)),
+              fed-few least left (next (f .receiver) x) (drop (n + 2) (drop (f .used) file)) (room - length (wrote (f .receiver) x)),
             )
 
-        under : Underway r (fedFrom least (length a₀ / answerNumbers) r file (length o₀)) a₀ o₀ (withTaken f t) a′ o′ more
-        under = underway-next r _ a₀ o₀ f a o x more (rw came at (s .under)) t l m q em room-left list-left
+        under : Underway r (fedFrom least (length a₀ / answerNumbers) r file (length o₀)) a₀ o₀ (withEntryOf f n q b) a′ o′ more
+        under = underway-next r _ a₀ o₀ f a o x more (rw came at (s .under)) n q b l m step x-long em room-left list-left
 
         a-long : length a′ ≡ length a
-        a-long = wrote-on a (answerNumbers * f .entries) answerNumbers m (numbersOf (t .answer)) (answersTo (next (f .receiver) x) more) em refl list-left .long
+        a-long = wrote-on a (answerNumbers * f .entries) answerNumbers m (numbersOf b) (answersTo (next (f .receiver) x) more) em refl list-left .long
 
         o-long : length o′ ≡ length o
-        o-long = wrote-on o (recordBytes * f .records) _ l (wrote (f .receiver) x) (written (next (f .receiver) x) more) (q .output) refl room-left .long
+        o-long = wrote-on o (recordBytes * f .records) _ l (wrote (f .receiver) x) (written (next (f .receiver) x) more) (step .output) refl room-left .long
 
-        goes-on : more ≡ coming least (length a₀ / answerNumbers) file (withTaken f t) (length o′)
+        goes-on : more ≡ coming least (length a₀ / answerNumbers) file (withEntryOf f n q b) (length o′)
         goes-on =
-            let w = ap (λ (b : Answer). b .records) (q .answer) in
-            let i = next-inside least rest (length space) n e in
-            let u : f .used + (n + 2) ≡ f .used + t .used = omega (arith, q .used, message-long rest n i) in
-            let d : drop (n + 2) rest ≡ drop (f .used + t .used) file = ap (drop (n + 2)) (tail-is file (f .used)) ∙ (drop-drop (n + 2) (f .used) file ∙ ap (λ (j : ℕ). drop j file) u) in
-            let z : length space - length (wrote (f .receiver) x) ≡ length o′ - recordBytes * (f .records + t .answer .records) = omega (arith, space-long, o-long, records-written (f .receiver) x) in
-            λ i. fedFrom least left (sym (q .receiver) i) (d i) (z i)
+            let u : f .used + (n + 2) ≡ f .used + 2 + n = omega arith in
+            let d : drop (n + 2) (drop (f .used) file) ≡ drop (f .used + 2 + n) file = drop-drop (n + 2) (f .used) file ∙ ap (λ (j : ℕ). drop j file) u in
+            let z : room - length (wrote (f .receiver) x) ≡ length o′ - recordBytes * (f .records + b .records) = omega (arith, o-long, count-is) in
+            λ i. fedFrom least left (sym (step .receiver) i) (d i) (z i)
 
-        stands-on : Stands least r file a₀ o₀ (withTaken f t) a′ o′
-        stands-on =
+        pub stands-next : Stands least r file a₀ o₀ (withEntryOf f n q b) a′ o′
+        stands-next =
             record {
-              states = ap (λ (p : Receiver). length (p .states)) (q .receiver) ∙ next-long (f .receiver) (s .states) x;
-              used = bounded .used;
+              states = ap (λ (p : Receiver). length (p .states)) (step .receiver) ∙ next-long (f .receiver) (s .states) x;
+              used = found-inside;
               entries = omega (arith, places);
               records = omega (arith, bounded .records, o-long);
               list = a-long ∙ s .list;
               long = o-long ∙ s .long;
               under = rw goes-on at under;
             }
-
-      pub stands-next : (t .used ≡ 0 → ⊥) → Stands least r file a₀ o₀ (withTaken f t) a′ o′
-      stands-next u = go (nextIn least rest (length space)) refl (k .takes)
-        where
-          go : (p : Front) → nextIn least rest (length space) ≡ p → TakesBy p (f .receiver) rest space t l → Stands least r file a₀ o₀ (withTaken f t) a′ o′
-          go (Front.Entry n) e q = stands-on n e q
-          go Front.Part e q = absurd (u (ap (λ (v : Taken). v .used) (q .0)))

@@ -10,11 +10,9 @@ use Rattle.entries.specs.Entries.{frontOf}
 use Rattle.entries.specs.declared.Front.{Front}
 use Rattle.entries.specs.declared.Front.the-variants as Front
 use Rattle.house.specs.Fields.{recordBytes}
-use Rattle.receiver.specs.Receive.{refusal}
 use Rattle.receiver.specs.History.{Sent, next, answerTo, wrote, after, written}
 use Rattle.receiver.specs.declared.Receiver.{Receiver}
 use Rattle.receiver.specs.declared.Answer.{Answer}
-use Rattle.intake.specs.declared.Taken.{Taken}
 use Rattle.intake.specs.declared.Fed.{Fed}
 
 -- ---- the entries that are fed
@@ -59,10 +57,7 @@ unfoldable pub answersTo : Receiver → List Sent → List ℕ
 answersTo r [] = []
 answersTo r (x ∷ h) = numbersOf (answerTo r x) ++ answersTo (next r x) h
 
--- ---- the calls
-
-abbrev pub started : Receiver → Fed
-started r = record { receiver = r; entries = 0; used = 0; records = 0 }
+-- ---- the call
 
 -- the history h was fed to the receiver r: what is answered, and what the list of answers, which held a₀, and the output, which held o₀, hold then
 pub record Feeds (r : Receiver) (h : List Sent) (f : Fed) (a₀ a o₀ o : List ℕ) : Type 0 where
@@ -80,22 +75,3 @@ pub record TakesEntries (least : ℕ) (r : Receiver) (file : List ℕ) (f : Fed)
   pub used : f .used ≤ length file
   pub places : answerNumbers * f .entries ≤ length a₀
   pub room : recordBytes * f .records ≤ length o₀
-
--- nothing was taken
-abbrev pub untaken : Receiver → Taken
-untaken r = record { receiver = r; answer = refusal 0; used = 0 }
-
--- the message x of an entry was received
-pub record Received (r : Receiver) (x : Sent) (before : List ℕ) (t : Taken) (after : List ℕ) : Type 0 where
-  pub receiver : t .receiver ≡ next r x
-  pub answer : t .answer ≡ answerTo r x
-  pub output : after ≡ laid before (wrote r x)
-  pub used : t .used ≡ 2 + length (x .message)
-
-abbrev pub TakesBy : Front → Receiver → List ℕ → List ℕ → Taken → List ℕ → Type 0
-TakesBy (Front.Entry n) r file before t after = Received r (sentFrom n file (length before)) before t after
-TakesBy Front.Part r file before t after = (t ≡ untaken r) × (after ≡ before)
-
--- the contract of one turn
-pub record TakesEntry (least : ℕ) (r : Receiver) (file before : List ℕ) (t : Taken) (after : List ℕ) : Type 0 where
-  pub takes : TakesBy (nextIn least file (length before)) r file before t after

@@ -1,13 +1,12 @@
 // The entries of a bench file, fed to a receiver: the bench program's loop, without reading and printing.
 use entries::Front;
-use paper::Milliseconds;
 use receiver::Answer;
 use receiver::Receiver;
 ghost use mathlib.Core.Path.{_≡_};
 ghost use Prim.Native.Nat.{_≤_, _<_};
 ghost use lib.ListN.{length};
 ghost use Rattle.slices.specs.Writing.{laid};
-ghost use Rattle.intake.specs.Feeding.{untaken, started, answerNumbers, numbersOf, TakesEntry, TakesEntries};
+ghost use Rattle.intake.specs.Feeding.{nextIn, answerNumbers, numbersOf, TakesEntries};
 
 // How many numbers an answer has: the refusal, frames injected, ignored and cancelled, encodeTime, records.
 pub const ANSWER_NUMBERS: usize = 6;
@@ -20,52 +19,14 @@ pub struct Fed {
     pub records: usize,
 }
 
-// The receiver after an entry, its answer, and how many bytes of the file the entry has: 0 where none was taken.
-struct Taken {
-    receiver: Receiver,
-    answer: Answer,
-    used: usize,
-}
-
-// No entry: nothing happens.
-fn nothing(receiver: Receiver) -> Taken
-    ensures { λ r. ⌜ r ≡ untaken receiver ⌝ }
+// The entry at the front of a part of a bench file, if it is whole and at least so much output is left.
+fn next_entry(file: &[u8], least: usize, room: usize) -> Front
+    ensures { λ r. ⌜ r ≡ nextIn least (now (file .entry)) room ⌝ }
 {
-    let answer = Answer {
-        refusal: 0,
-        injected: 0,
-        ignored: 0,
-        cancelled: 0,
-        time: Milliseconds(0),
-        records: 0,
-    };
-    Taken {
-        receiver: receiver,
-        answer: answer,
-        used: 0,
+    if room < least {
+        return Front::Part;
     }
-}
-
-// Feeds the entry at the front of a part of a bench file to a receiver, if it is whole and at least so much output is left.
-fn take_entry(receiver: Receiver, file: &[u8], least: usize, output: &mut [u8]) -> Taken
-    ensures { λ r. ⌜ TakesEntry least receiver (now (file .entry)) (now (output .entry)) r (now (output .exit)) ⌝ }
-{
-    if output.len() < least {
-        return nothing(receiver);
-    }
-    let front = entries::read_front(file);
-    let Front::Entry(n) = front else {
-        return nothing(receiver);
-    };
-    let end = n + 2;
-    let received = receiver::receive(receiver, &file[2..end], output);
-    let next = received.receiver;
-    let answer = received.answer;
-    Taken {
-        receiver: next,
-        answer: answer,
-        used: end,
-    }
+    entries::read_front(file)
 }
 
 // Puts the numbers of an answer at the front of a list.
@@ -82,47 +43,42 @@ fn put_answer(answers: &mut [u32], answer: Answer)
     answers[5] = answer.records as u32;
 }
 
-// Nothing is fed yet.
-fn start(receiver: Receiver) -> Fed
-    ensures { λ r. ⌜ r ≡ started receiver ⌝ }
-{
-    Fed {
-        receiver: receiver,
-        entries: 0,
-        used: 0,
-        records: 0,
-    }
-}
-
 // Feeds the whole entries at the front of a part of a bench file to a receiver one after the other, each with the output that is
 // left: as long as an answer's place is left in `answers`, and at least `least` bytes of output.
 pub fn take_entries(
-    receiver: Receiver,
+    first: Receiver,
     file: &[u8],
     least: usize,
     answers: &mut [u32],
     output: &mut [u8],
 ) -> Fed
-    ensures { λ r. ⌜ TakesEntries least receiver (now (file .entry)) r (now (answers .entry)) (now (answers .exit)) (now (output .entry)) (now (output .exit)) ⌝ }
+    ensures { λ r. ⌜ TakesEntries least first (now (file .entry)) r (now (answers .entry)) (now (answers .exit)) (now (output .entry)) (now (output .exit)) ⌝ }
 {
     let places = answers.len() / ANSWER_NUMBERS;
-    let mut fed = start(receiver);
-    while fed.entries < places {
-        let used = fed.used;
-        let written = house::RECORD_BYTES * fed.records;
-        let taken = take_entry(fed.receiver, &file[used..], least, &mut output[written..]);
-        if taken.used == 0 {
-            return fed;
-        }
-        let at = ANSWER_NUMBERS * fed.entries;
-        put_answer(&mut answers[at..], taken.answer);
-        let next = taken.receiver;
-        fed = Fed {
-            receiver: next,
-            entries: fed.entries + 1,
-            used: used + taken.used,
-            records: fed.records + taken.answer.records,
+    let mut receiver = first;
+    let mut entries: usize = 0;
+    let mut used: usize = 0;
+    let mut records: usize = 0;
+    while entries < places {
+        let end = house::RECORD_BYTES * records;
+        let next = next_entry(&file[used..], least, output.len() - end);
+        let Front::Entry(n) = next else {
+            break;
         };
+        let from = used + 2;
+        let to = from + n;
+        let received = receiver::receive(receiver, &file[from..to], &mut output[end..]);
+        let place = ANSWER_NUMBERS * entries;
+        put_answer(&mut answers[place..], received.answer);
+        receiver = received.receiver;
+        entries += 1;
+        used = to;
+        records += received.answer.records;
     }
-    fed
+    Fed {
+        receiver: receiver,
+        entries: entries,
+        used: used,
+        records: records,
+    }
 }

@@ -1,84 +1,108 @@
 -- `intake::take_entries` meets its contract. The loop keeps: what is still to come ends as the whole does.
 -- Assumes nothing.
 use borrow.Author.Needs.{needs}
-use Prim.Native.Nat.{_-_, _*_, _^_, _<_}
+use Prim.Native.Nat.{_+_, _-_, _*_, _^_, _≤_, _<_}
 use mathlib.Core.Path.{_≡_, sym, ap, _∙_}
 use native.Mathlib.Omega.{arith}
+use borrow.Rule.Slice.PartMut.{midOf}
 use lib.ListN.{length, length-map, length-drop}
 use Rattle.slices.proofs.Tails.{tail-is}
-use Rattle.intake.specs.Feeding.{answerNumbers}
+use Rattle.entries.specs.declared.Front.the-variants as Front
+use Rattle.house.specs.Fields.{recordBytes}
 use Rattle.intake.specs.declared.Fed.{Fed}
-use Rattle.intake.proofs.Taking.{Stands, Bounded, stands-first, stands-last, stands-stop, stands-next, bounded}
+use Rattle.intake.specs.Feeding.{nextIn, answerNumbers}
+use Rattle.intake.proofs.Taking.{Stands, Bounded, stands-first, stands-last, stands-stop, stands-next, found-inside, bounded}
 use Rattle.intake.proofs.take_entries.Statement.{statement}
 use Rattle.intake.proofs.take_entries.Tie as tie
 
 abbrev Inv-loop : tie.InvT-loop
-Inv-loop file least answers₀ output₀ places fed₀ answers output fed = Stands least (fed₀ .receiver) file answers₀ output₀ fed answers output
+Inv-loop file least answers₀ output₀ places receiver₀ entries₀ used₀ records₀ answers output receiver entries used records =
+    Stands least receiver₀ file answers₀ output₀ (record { receiver = receiver; entries = entries; used = used; records = records }) answers output
 
 abbrev μ-loop : tie.MeasureT-loop
-μ-loop file least answers₀ output₀ places fed₀ answers output fed = places - fed .entries
+μ-loop file least answers₀ output₀ places receiver₀ entries₀ used₀ records₀ answers output receiver entries used records =
+    places - entries
 
 -- a receiver's table has 256 states by its type
-whole : (c : tie.Start Inv-loop μ-loop) → length (c .args .receiver .states) ≡ 256
-whole c = sym (length-map (c .args .receiver .states) (λ v. v)) ∙ c .good .0 .1 .1 .1 .1 .1 .1 .0 .1 .0 .1
+whole : (c : tie.Start Inv-loop μ-loop) → length (c .args .first .states) ≡ 256
+whole c = sym (length-map (c .args .first .states) (λ v. v)) ∙ c .good .0 .1 .1 .1 .1 .1 .1 .0 .1 .0 .1
 
-short : (c : tie.At-loop Inv-loop μ-loop) → let a = c .before .before .before .before .before .args in (length (a .file .now) < 2 ^ 64) × (length (a .answers .now) * 4 < 2 ^ 64) × (length (a .output .now) < 2 ^ 64)
-short c = let s = c .before .before .before .before .before in (omega arith, omega arith, omega arith)
+short : (c : tie.At-loop Inv-loop μ-loop) → let a = c .before .before .before .before .args in (length (a .file .now) < 2 ^ 64) × (length (a .answers .now) * 4 < 2 ^ 64) × (length (a .output .now) < 2 ^ 64)
+short c = let s = c .before .before .before .before in (omega arith, omega arith, omega arith)
 
--- the receiver that the loop begins with is the one that came in
-same : (c : tie.At-loop Inv-loop μ-loop) → c .before .start .result .receiver ≡ c .before .before .before .before .before .args .receiver
-same c = ap (λ (f : Fed). f .receiver) (c .before .start .ensures)
+-- where a turn begins
+abbrev fedAt : tie.At-loop Inv-loop μ-loop → Fed
+fedAt c = record { receiver = c .loop .receiver; entries = c .loop .entries; used = c .loop .used; records = c .loop .records }
 
--- what a turn takes lies within what was lent
-near : (c : tie.After-take-entry Inv-loop μ-loop) →
+-- the entry that it finds
+found : (c : tie.After-known-told Inv-loop μ-loop) →
     let p = c .before .before .before .before .before .before in
-    Bounded (p .before .before .before .before .before .args .file .now) (p .loop .output) (p .loop .fed) (c .take-entry .result)
-near c = let p = c .before .before .before .before .before .before in bounded _ _ _ _ _ _ _ _ (p .loop .inv) _ _ (c .take-entry .ensures)
+    let file = p .before .before .before .before .args .file .now in
+    nextIn (p .before .before .before .before .args .least) (midOf (p .loop .used) (length file - p .loop .used) file) (length (p .loop .output) - recordBytes * p .loop .records) ≡ Front.Entry (c .before .next .given .0 .0)
+found c = sym (c .before .before .before .next-entry .ensures) ∙ c .before .next .given .1
 
-start-requires : tie.Need-start-requires Inv-loop μ-loop
-start-requires c κs = search needs
+inside : (c : tie.After-known-told Inv-loop μ-loop) → let p = c .before .before .before .before .before .before in p .loop .used + 2 + c .before .next .given .0 .0 ≤ length (p .before .before .before .before .args .file .now)
+inside c = found-inside _ _ _ _ _ _ _ _ (c .before .before .before .before .before .before .loop .inv) _ (found c)
+
+few : (c : tie.After-receive Inv-loop μ-loop) → let p = c .before .before .before .before .before .before .before .before .before in Bounded (p .loop .output) (fedAt p) (c .receive .result .answer)
+few c = let k = c .before .before .before in bounded _ _ _ _ _ _ _ _ (k .before .before .before .before .before .before .loop .inv) _ (found k) _ _ _ (c .receive .ensures)
 
 loop-holds : tie.Need-loop-holds Inv-loop μ-loop
-loop-holds c = rw (c .start .ensures) (stands-first _ _ _ _ _ (whole (c .before .before .before .before)))
+loop-holds c = stands-first _ _ _ _ _ (whole (c .before .before .before))
 
-mul-written : tie.Need-mul-written Inv-loop μ-loop
-mul-written c = let p = c .before .before .before in omega (arith, p .loop .inv .records, p .loop .inv .long, short p .2)
+mul-end : tie.Need-mul-end Inv-loop μ-loop
+mul-end c = let p = c .before in omega (arith, p .loop .inv .records, p .loop .inv .long, short p .2)
 
-sub-take-entry : tie.Need-sub-take-entry Inv-loop μ-loop
-sub-take-entry c = search needs
+sub-next-entry : tie.Need-sub-next-entry Inv-loop μ-loop
+sub-next-entry c = search needs
 
-part-take-entry-start : tie.Need-part-take-entry-start Inv-loop μ-loop
-part-take-entry-start c = search needs
+part-next-entry-start : tie.Need-part-next-entry-start Inv-loop μ-loop
+part-next-entry-start c = search needs
 
-part-take-entry-end : tie.Need-part-take-entry-end Inv-loop μ-loop
-part-take-entry-end c = search needs
+part-next-entry-end : tie.Need-part-next-entry-end Inv-loop μ-loop
+part-next-entry-end c = search needs
 
-sub-take-entry-2 : tie.Need-sub-take-entry-2 Inv-loop μ-loop
-sub-take-entry-2 c = search needs
+sub-next-entry-2 : tie.Need-sub-next-entry-2 Inv-loop μ-loop
+sub-next-entry-2 c = search needs
 
-part-take-entry-start-2 : tie.Need-part-take-entry-start-2 Inv-loop μ-loop
-part-take-entry-start-2 c = search needs
+next-entry-requires : tie.Need-next-entry-requires Inv-loop μ-loop
+next-entry-requires c κs = search needs
 
-part-take-entry-end-2 : tie.Need-part-take-entry-end-2 Inv-loop μ-loop
-part-take-entry-end-2 c = search needs
+enum-known-next : tie.Need-enum-known-next Inv-loop μ-loop
+enum-known-next c = search needs
 
-take-entry-requires : tie.Need-take-entry-requires Inv-loop μ-loop
-take-entry-requires c κs = search needs
+enum-told : tie.Need-enum-told Inv-loop μ-loop
+enum-told c = search needs
 
-same-length : tie.Need-same-length Inv-loop μ-loop
-same-length c = search needs
+add-from : tie.Need-add-from Inv-loop μ-loop
+add-from c = omega (arith, inside c, short (c .before .before .before .before .before .before) .0)
 
-same-length-2 : tie.Need-same-length-2 Inv-loop μ-loop
-same-length-2 c = search needs
+add-to : tie.Need-add-to Inv-loop μ-loop
+add-to c = omega (arith, inside c, short (c .before .before .before .before .before .before) .0)
 
-returns : tie.Need-returns Inv-loop μ-loop
-returns c =
-    let t = c .before .before .before .before in
-    let p = t .before .before .before .before .before .before in
-    rw (same p) at (stands-stop _ _ _ _ _ _ _ _ (p .loop .inv) _ _ (t .take-entry .ensures) (c .if2 .taken))
+sub-receive : tie.Need-sub-receive Inv-loop μ-loop
+sub-receive c = search needs
 
-mul-at : tie.Need-mul-at Inv-loop μ-loop
-mul-at c = let p = c .before .before .before .before .before .before .before .before .before .before .before in omega (arith, p .loop .inv .entries, short p .1)
+part-receive-start : tie.Need-part-receive-start Inv-loop μ-loop
+part-receive-start c = search needs
+
+part-receive-end : tie.Need-part-receive-end Inv-loop μ-loop
+part-receive-end c = omega (arith, inside c)
+
+sub-receive-2 : tie.Need-sub-receive-2 Inv-loop μ-loop
+sub-receive-2 c = search needs
+
+part-receive-start-2 : tie.Need-part-receive-start-2 Inv-loop μ-loop
+part-receive-start-2 c = search needs
+
+part-receive-end-2 : tie.Need-part-receive-end-2 Inv-loop μ-loop
+part-receive-end-2 c = search needs
+
+receive-requires : tie.Need-receive-requires Inv-loop μ-loop
+receive-requires c κs = search needs
+
+mul-place : tie.Need-mul-place Inv-loop μ-loop
+mul-place c = let p = c .before .before .before .before .before .before .before .before .before .before .before in omega (arith, p .loop .inv .entries, short p .1)
 
 mul-put-answer : tie.Need-mul-put-answer Inv-loop μ-loop
 mul-put-answer c = let p = c .before .before .before .before .before .before .before .before .before .before .before in omega (arith, p .loop .inv .entries, short p .1)
@@ -94,28 +118,38 @@ part-put-answer-end c = search needs
 
 put-answer-requires : tie.Need-put-answer-requires Inv-loop μ-loop
 put-answer-requires c κs =
-    let t = c .before .before .before .before .before .before in
-    let p = t .before .before .before .before .before .before in
-    let n = ap length (tail-is (p .loop .answers) (answerNumbers * p .loop .fed .entries)) ∙ length-drop (answerNumbers * p .loop .fed .entries) (p .loop .answers) in
-    (omega (arith, t .before .before .before .before .if1 .taken, p .loop .inv .list), omega (arith, near t .small))
+    let t = c .before .before .before in
+    let p = t .before .before .before .before .before .before .before .before .before in
+    let n = ap length (tail-is (p .loop .answers) (answerNumbers * p .loop .entries)) ∙ length-drop (answerNumbers * p .loop .entries) (p .loop .answers) in
+    (omega (arith, t .before .before .before .before .before .before .before .before .loop-test .taken, p .loop .inv .list), omega (arith, few t .small))
 
-add-t20 : tie.Need-add-t20 Inv-loop μ-loop
-add-t20 c = let t = c .before .before .before .before .before .before .before .before .before .before .before in omega (arith, t .before .before .before .before .if1 .taken, short (t .before .before .before .before .before .before) .1)
+add-entries : tie.Need-add-entries Inv-loop μ-loop
+add-entries c = let t = c .before .before .before .before .before .before .before in omega (arith, t .before .before .before .before .before .before .before .before .loop-test .taken, short (t .before .before .before .before .before .before .before .before .before) .1)
 
-add-t16 : tie.Need-add-t16 Inv-loop μ-loop
-add-t16 c = let t = c .before .before .before .before .before .before .before .before .before .before .before .before in omega (arith, near t .used, short (t .before .before .before .before .before .before) .0)
-
-add-t27 : tie.Need-add-t27 Inv-loop μ-loop
-add-t27 c = let t = c .before .before .before .before .before .before .before .before .before .before .before .before .before .before in let p = t .before .before .before .before .before .before in omega (arith, near t .records, p .loop .inv .long, short p .2)
+add-records : tie.Need-add-records Inv-loop μ-loop
+add-records c =
+    let t = c .before .before .before .before .before .before .before .before in
+    let p = t .before .before .before .before .before .before .before .before .before in
+    omega (arith, few t .records, p .loop .inv .long, short p .2)
 
 loop-less : tie.Need-loop-less Inv-loop μ-loop
-loop-less c = let t = c .before .before .before .before .before .before .before .before .before .before .before .before .before .before in omega (arith, t .before .before .before .before .if1 .taken)
+loop-less c = omega (arith, c .before .before .before .before .before .before .before .before .before .before .before .before .before .before .before .before .loop-test .taken)
 
 loop-again : tie.Need-loop-again Inv-loop μ-loop
 loop-again c =
-    let t = c .before .before .before .before .before .before .before .before .before .before .before .before .before .before in
-    let p = t .before .before .before .before .before .before in
-    stands-next _ _ _ _ _ _ _ _ (p .loop .inv) _ _ (t .take-entry .ensures) _ (t .before .before .before .before .if1 .taken) (c .before .before .before .before .before .before .before .put-answer .ensures) (c .before .before .before .before .before .before .before .before .before .before .if2 .left)
+    let t = c .before .before .before .before .before .before .before .before in
+    let k = t .before .before .before in
+    let p = k .before .before .before .before .before .before in
+    stands-next _ _ _ _ _ _ _ _ (p .loop .inv) _ (found k) _ _ _ (t .receive .ensures) _ (k .before .before .before .before .before .loop-test .taken) (c .before .before .before .before .put-answer .ensures)
+
+same-length : tie.Need-same-length Inv-loop μ-loop
+same-length c = search needs
+
+same-length-2 : tie.Need-same-length-2 Inv-loop μ-loop
+same-length-2 c = search needs
+
+returns : tie.Need-returns Inv-loop μ-loop
+returns c = stands-last _ _ _ _ _ _ _ _ (c .before .loop .inv) (c .loop-test .left)
 
 same-length-3 : tie.Need-same-length-3 Inv-loop μ-loop
 same-length-3 c = search needs
@@ -124,7 +158,9 @@ same-length-4 : tie.Need-same-length-4 Inv-loop μ-loop
 same-length-4 c = search needs
 
 returns-2 : tie.Need-returns-2 Inv-loop μ-loop
-returns-2 c = let p = c .before .before in rw (same p) at (stands-last _ _ _ _ _ _ _ _ (p .loop .inv) (c .if1 .left))
+returns-2 c =
+    let n = c .before .before in
+    stands-stop _ _ _ _ _ _ _ _ (n .before .before .before .loop .inv) (sym (n .next-entry .ensures) ∙ c .enum-told .given .1)
 
 pub take-entries-spec : {M : Type 1} → statement M
 take-entries-spec =
@@ -132,30 +168,37 @@ take-entries-spec =
     (tie.spec
     Inv-loop
     μ-loop
-    start-requires
     loop-holds
-    mul-written
-    sub-take-entry
-    part-take-entry-start
-    part-take-entry-end
-    sub-take-entry-2
-    part-take-entry-start-2
-    part-take-entry-end-2
-    take-entry-requires
-    same-length
-    same-length-2
-    returns
-    mul-at
+    mul-end
+    sub-next-entry
+    part-next-entry-start
+    part-next-entry-end
+    sub-next-entry-2
+    next-entry-requires
+    enum-known-next
+    enum-told
+    add-from
+    add-to
+    sub-receive
+    part-receive-start
+    part-receive-end
+    sub-receive-2
+    part-receive-start-2
+    part-receive-end-2
+    receive-requires
+    mul-place
     mul-put-answer
     sub-put-answer
     part-put-answer-start
     part-put-answer-end
     put-answer-requires
-    add-t20
-    add-t16
-    add-t27
+    add-entries
+    add-records
     loop-less
     loop-again
+    same-length
+    same-length-2
+    returns
     same-length-3
     same-length-4
     returns-2)

@@ -43,9 +43,8 @@ pub(crate) fn survey(
         }
         if is_allowed(contact, states, xs, ys) {
             seen[i] = true;
-            let before = states[i];
-            came += one_if_active(states::next_state(contact.flags, before));
-            gone += one_if_active(before);
+            came += one_if_active(states::next_state(contact.flags, states[i]));
+            gone += one_if_active(states[i]);
             at += k;
             left -= 1;
         } else {

@@ -169,14 +169,13 @@ fn carry_out(
     );
     let time = head.time;
     let answer = answer_to(run, time_for(time, untimed));
-    let after = Marks {
-        ready: marks.ready,
-        begun: begun_after(marks.begun, head.frames),
-        ignoring: ignoring_in(run.running),
-        settings: settings,
-    };
     Turn {
-        marks: after,
+        marks: Marks {
+            ready: marks.ready,
+            begun: begun_after(marks.begun, head.frames),
+            ignoring: ignoring_in(run.running),
+            settings: settings,
+        },
         answer: answer,
     }
 }

@@ -111,8 +111,8 @@ is-allowed-requires c κs = search needs
 array-write-seen : tie.Need-array-write-seen Inv-loop μ-loop
 array-write-seen c = search needs
 
-element-copy-out-before : tie.Need-element-copy-out-before Inv-loop μ-loop
-element-copy-out-before c = search needs
+element-copy-out-next-state : tie.Need-element-copy-out-next-state Inv-loop μ-loop
+element-copy-out-next-state c = search needs
 
 next-state-requires : tie.Need-next-state-requires Inv-loop μ-loop
 next-state-requires c κs = search needs
@@ -123,6 +123,9 @@ one-if-active-requires c κs = search needs
 add-came : tie.Need-add-came Inv-loop μ-loop
 add-came c = omega arith
 
+element-copy-out-one-if-active : tie.Need-element-copy-out-one-if-active Inv-loop μ-loop
+element-copy-out-one-if-active c = search needs
+
 one-if-active-requires-2 : tie.Need-one-if-active-requires-2 Inv-loop μ-loop
 one-if-active-requires-2 c κs = search needs
 
@@ -130,7 +133,7 @@ add-gone : tie.Need-add-gone Inv-loop μ-loop
 add-gone c = omega arith
 
 add-at : tie.Need-add-at Inv-loop μ-loop
-add-at c = omega (arith, this (c .before .before .before .before .before .before .before .before) .ends)
+add-at c = omega (arith, this (c .before .before .before .before .before .before .before .before .before) .ends)
 
 sub-left : tie.Need-sub-left Inv-loop μ-loop
 sub-left c = search needs
@@ -140,14 +143,14 @@ loop-less c = search needs
 
 loop-again : tie.Need-loop-again Inv-loop μ-loop
 loop-again c =
-    let v = c .before .before .before .before .before in
+    let v = c .before .before .before .before .before .before in
     let k = v .before .before .before in
     let r = k .before .before .before in
     let p = r .before .before .before in
     let a = p .before .before .args in
     let d = k .before .got .given .0 .0 in
-    let up = c .before .one-if-active .ensures .0 ∙ ap (λ s. one (active s)) (c .before .before .next-state .ensures) in
-    let on = survey-on (a .states .now) (a .xs .now) (a .ys .now) (p .loop .seen) (p .loop .came) (p .loop .gone) d _ _ (omega (arith, id-in (v .before .before), p .loop .inv .1)) (v .before .if1 .left) (sym (v .is-allowed .ensures) ∙ c .before .before .before .before .if2 .taken) up (c .one-if-active2 .ensures .0) in (
+    let up = c .before .before .one-if-active .ensures .0 ∙ ap (λ s. one (active s)) (c .before .before .before .next-state .ensures) in
+    let on = survey-on (a .states .now) (a .xs .now) (a .ys .now) (p .loop .seen) (p .loop .came) (p .loop .gone) d _ _ (omega (arith, id-in (v .before .before), p .loop .inv .1)) (v .before .if1 .left) (sym (v .is-allowed .ensures) ∙ c .before .before .before .before .before .if2 .taken) up (c .one-if-active2 .ensures .0) in (
       this k .ends,
       simp length-set (p .loop .inv .1),
       omega arith,
@@ -192,10 +195,11 @@ survey-spec =
     returns-2
     is-allowed-requires
     array-write-seen
-    element-copy-out-before
+    element-copy-out-next-state
     next-state-requires
     one-if-active-requires
     add-came
+    element-copy-out-one-if-active
     one-if-active-requires-2
     add-gone
     add-at

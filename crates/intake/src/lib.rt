@@ -46,16 +46,15 @@ fn put_answer(answers: &mut [u32], answer: Answer)
 // Feeds the whole entries at the front of a part of a bench file to a receiver one after the other, each with the output that is
 // left: as long as an answer's place is left in `answers`, and at least `least` bytes of output.
 pub fn take_entries(
-    first: Receiver,
+    mut receiver: Receiver,
     file: &[u8],
     least: usize,
     answers: &mut [u32],
     output: &mut [u8],
 ) -> Fed
-    ensures { λ r. ⌜ TakesEntries least first (now (file .entry)) r (now (answers .entry)) (now (answers .exit)) (now (output .entry)) (now (output .exit)) ⌝ }
+    ensures { λ r. ⌜ TakesEntries least receiver (now (file .entry)) r (now (answers .entry)) (now (answers .exit)) (now (output .entry)) (now (output .exit)) ⌝ }
 {
     let places = answers.len() / ANSWER_NUMBERS;
-    let mut receiver = first;
     let mut entries: usize = 0;
     let mut used: usize = 0;
     let mut records: usize = 0;

@@ -16,16 +16,16 @@ use Rattle.intake.proofs.take_entries.Statement.{statement}
 use Rattle.intake.proofs.take_entries.Tie as tie
 
 abbrev Inv-loop : tie.InvT-loop
-Inv-loop file least answers₀ output₀ places receiver₀ entries₀ used₀ records₀ answers output receiver entries used records =
+Inv-loop receiver₀ file least answers₀ output₀ places entries₀ used₀ records₀ receiver answers output entries used records =
     Stands least receiver₀ file answers₀ output₀ (record { receiver = receiver; entries = entries; used = used; records = records }) answers output
 
 abbrev μ-loop : tie.MeasureT-loop
-μ-loop file least answers₀ output₀ places receiver₀ entries₀ used₀ records₀ answers output receiver entries used records =
+μ-loop receiver₀ file least answers₀ output₀ places entries₀ used₀ records₀ receiver answers output entries used records =
     places - entries
 
 -- a receiver's table has 256 states by its type
-whole : (c : tie.Start Inv-loop μ-loop) → length (c .args .first .states) ≡ 256
-whole c = sym (length-map (c .args .first .states) (λ v. v)) ∙ c .good .0 .1 .1 .1 .1 .1 .1 .0 .1 .0 .1
+whole : (c : tie.Start Inv-loop μ-loop) → length (c .args .receiver .states) ≡ 256
+whole c = sym (length-map (c .args .receiver .states) (λ v. v)) ∙ c .good .0 .1 .1 .1 .1 .1 .1 .0 .1 .0 .1
 
 short : (c : tie.At-loop Inv-loop μ-loop) → let a = c .before .before .before .before .args in (length (a .file .now) < 2 ^ 64) × (length (a .answers .now) * 4 < 2 ^ 64) × (length (a .output .now) < 2 ^ 64)
 short c = let s = c .before .before .before .before in (omega arith, omega arith, omega arith)

@@ -13,7 +13,8 @@ use lib.ListN.{length, take, drop, length-append}
 use Rattle.house.specs.Layout.{contactBytes, cancelled as cancelKind, dismissed as dismissKind}
 use Rattle.house.proofs.Round.{length-contact}
 use Rattle.house.specs.declared.Contact.{Contact}
-use Rattle.touch.specs.Touch.{Frame, frameBytes}
+use Rattle.framing.specs.Frame.{Frame, frameBytes}
+use Rattle.touch.specs.Touch.{touchRecord}
 use Rattle.states.specs.Table.{out, hovering}
 use Rattle.contacts.specs.Table.{Table, contacts, stateAt, placeAt, withContact, origin, resting, active, one, countActive}
 use Rattle.contacts.specs.Conforms.{Rules, after, conforms}
@@ -44,12 +45,12 @@ module _ (rules : Rules) (m : Machine) (cs : List Contact) where
 
 -- ---- one frame
 
-module _ (rules : Rules) (m : Machine) (f : Frame) where
+module _ (rules : Rules) (m : Machine) (f : Frame Contact) where
   pub injected-machine : verdict rules m (f .contacts) ≡ injected → stepMachine rules m f ≡ record { table = after rules (m .table) (f .contacts); running = true }
   unfolding stepMachine
   injected-machine h = rw h
 
-  pub injected-bytes : verdict rules m (f .contacts) ≡ injected → stepBytes rules m f ≡ frameBytes f
+  pub injected-bytes : verdict rules m (f .contacts) ≡ injected → stepBytes rules m f ≡ frameBytes touchRecord f
   unfolding stepBytes
   injected-bytes h = rw h
 
@@ -72,12 +73,12 @@ module _ (rules : Rules) (m : Machine) (f : Frame) where
 -- ---- frames one after the other
 
 module _ (rules : Rules) where
-  pub machine-append : (m : Machine) (fs gs : List Frame) → runMachine rules m (fs ++ gs) ≡ runMachine rules (runMachine rules m fs) gs
+  pub machine-append : (m : Machine) (fs gs : List (Frame Contact)) → runMachine rules m (fs ++ gs) ≡ runMachine rules (runMachine rules m fs) gs
   unfolding runMachine
   machine-append m [] gs = refl
   machine-append m (f ∷ fs) gs = machine-append (stepMachine rules m f) fs gs
 
-  pub bytes-append : (m : Machine) (fs gs : List Frame) → runBytes rules m (fs ++ gs) ≡ runBytes rules m fs ++ runBytes rules (runMachine rules m fs) gs
+  pub bytes-append : (m : Machine) (fs gs : List (Frame Contact)) → runBytes rules m (fs ++ gs) ≡ runBytes rules m fs ++ runBytes rules (runMachine rules m fs) gs
   unfolding runMachine runBytes
   bytes-append m [] gs = refl
   bytes-append m (f ∷ fs) gs =
@@ -90,11 +91,11 @@ module _ (rules : Rules) where
   after-verdict m cs ignored w = w
   after-verdict m cs cancelled w = resting-whole
 
-  pub step-whole : (m : Machine) (f : Frame) → Whole (m .table) → Whole (stepMachine rules m f .table)
+  pub step-whole : (m : Machine) (f : Frame Contact) → Whole (m .table) → Whole (stepMachine rules m f .table)
   unfolding stepMachine
   step-whole m f w = after-verdict m (f .contacts) (verdict rules m (f .contacts)) w
 
-  pub run-whole : (m : Machine) (fs : List Frame) → Whole (m .table) → Whole (runMachine rules m fs .table)
+  pub run-whole : (m : Machine) (fs : List (Frame Contact)) → Whole (m .table) → Whole (runMachine rules m fs .table)
   unfolding runMachine
   run-whole m [] w = w
   run-whole m (f ∷ fs) w = run-whole (stepMachine rules m f) fs (step-whole m f w)
@@ -122,7 +123,7 @@ one-frame ignored = refl
 one-frame cancelled = refl
 
 module _ (rules : Rules) where
-  pub counts-append : (m : Machine) (fs gs : List Frame) → runCounts rules m (fs ++ gs) ≡ plus (runCounts rules m fs) (runCounts rules (runMachine rules m fs) gs)
+  pub counts-append : (m : Machine) (fs gs : List (Frame Contact)) → runCounts rules m (fs ++ gs) ≡ plus (runCounts rules m fs) (runCounts rules (runMachine rules m fs) gs)
   unfolding runMachine runCounts
   counts-append m [] gs = sym (plus-none (runCounts rules m gs))
   counts-append m (f ∷ fs) gs =
@@ -131,7 +132,7 @@ module _ (rules : Rules) where
       ap (plus v) (counts-append n fs gs) ∙ sym (plus-assoc v (runCounts rules n fs) (runCounts rules (runMachine rules n fs) gs))
 
   -- "The three counts add up to frameCount."
-  pub counts-total : (m : Machine) (fs : List Frame) → total (runCounts rules m fs) ≡ length fs
+  pub counts-total : (m : Machine) (fs : List (Frame Contact)) → total (runCounts rules m fs) ≡ length fs
   unfolding runCounts
   counts-total m [] = refl
   counts-total m (f ∷ fs) = omega (arith, one-frame (verdict rules m (f .contacts)), counts-total (stepMachine rules m f) fs)

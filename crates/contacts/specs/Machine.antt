@@ -8,7 +8,8 @@ use Rattle.house.specs.Layout.{contactBytes, cancelled as cancelKind, dismissed
 use Rattle.house.specs.declared.Contact.{Contact}
 use Rattle.house.specs.declared.Point.{Point}
 use Rattle.house.specs.Fits.{noSides}
-use Rattle.touch.specs.Touch.{Frame, frameBytes}
+use Rattle.framing.specs.Frame.{Frame, frameBytes}
+use Rattle.touch.specs.Touch.{touchRecord}
 use Rattle.contacts.specs.Table.{Table, contacts, stateAt, placeAt, withContact, origin, resting, active}
 use Rattle.contacts.specs.Conforms.{Rules, every, after, conforms}
 
@@ -65,15 +66,15 @@ machineAfter injected rules m cs = record { table = after rules (m .table) cs; r
 machineAfter ignored rules m cs = m
 machineAfter cancelled rules m cs = record { table = resting; running = false }
 
-abbrev pub bytesFor : Verdict → Machine → Frame → List ℕ
-bytesFor injected m f = frameBytes f
+abbrev pub bytesFor : Verdict → Machine → Frame Contact → List ℕ
+bytesFor injected m f = frameBytes touchRecord f
 bytesFor ignored m f = []
 bytesFor cancelled m f = cancels (m .table)
 
-unfoldable pub stepMachine : Rules → Machine → Frame → Machine
+unfoldable pub stepMachine : Rules → Machine → Frame Contact → Machine
 stepMachine rules m f = machineAfter (verdict rules m (f .contacts)) rules m (f .contacts)
 
-unfoldable pub stepBytes : Rules → Machine → Frame → List ℕ
+unfoldable pub stepBytes : Rules → Machine → Frame Contact → List ℕ
 stepBytes rules m f = bytesFor (verdict rules m (f .contacts)) m f
 
 -- ---- the frames of a message, in order
@@ -94,15 +95,15 @@ plus a b = record { injected = a .injected + b .injected; ignored = a .ignored +
 abbrev pub none : Counts
 none = record { injected = 0; ignored = 0; cancelled = 0 }
 
-unfoldable pub runMachine : Rules → Machine → List Frame → Machine
+unfoldable pub runMachine : Rules → Machine → List (Frame Contact) → Machine
 runMachine rules m [] = m
 runMachine rules m (f ∷ fs) = runMachine rules (stepMachine rules m f) fs
 
-unfoldable pub runBytes : Rules → Machine → List Frame → List ℕ
+unfoldable pub runBytes : Rules → Machine → List (Frame Contact) → List ℕ
 runBytes rules m [] = []
 runBytes rules m (f ∷ fs) = stepBytes rules m f ++ runBytes rules (stepMachine rules m f) fs
 
-unfoldable pub runCounts : Rules → Machine → List Frame → Counts
+unfoldable pub runCounts : Rules → Machine → List (Frame Contact) → Counts
 runCounts rules m [] = none
 runCounts rules m (f ∷ fs) = plus (countOf (verdict rules m (f .contacts))) (runCounts rules (stepMachine rules m f) fs)
 

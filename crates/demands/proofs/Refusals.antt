@@ -16,7 +16,8 @@ use Rattle.formats.specs.Format.{Got, got, bad}
 use Rattle.fields.specs.Integers.{strict}
 use Rattle.messages.specs.Header.{headed, readMessage}
 use Rattle.messages.specs.Header as event
-use Rattle.touch.specs.Touch.{Touch, touch, framesBytes}
+use Rattle.framing.specs.Frame.{framesBytes}
+use Rattle.touch.specs.Touch.{Touch, touch, touchRecord}
 use Rattle.reading.specs.Plain.{plainly, draftOf, timeOf, ReadsPlainly}
 use Rattle.reading.specs.Plain as plain
 use Rattle.reading.specs.declared.PlainAnswer.{PlainAnswer}
@@ -63,9 +64,9 @@ plainly-tame l = and-then (headed (λ x. eqb x event.touch) l) _ (headed-tame _ 
 given-numbered : (room : ℕ) (x : Got Touch) → Tame x → (n : ℕ) → given room (draftOf x) ≡ refuse n → (1 ≤ n) × (n ≤ 13)
 unfolding given
 given-numbered room (bad m) h n e = let z : m ≡ n = cc in (omega (arith, h .low), omega (arith, h .high))
-given-numbered room (got m t) h n e = go (leb (length (framesBytes (m .frames))) room) e
+given-numbered room (got m t) h n e = go (leb (length (framesBytes touchRecord (m .frames))) room) e
   where
-    go : (b : Bool) → cond b (bytes (framesBytes (m .frames))) (refuse noRoom) ≡ refuse n → (1 ≤ n) × (n ≤ 13)
+    go : (b : Bool) → cond b (bytes (framesBytes touchRecord (m .frames))) (refuse noRoom) ≡ refuse n → (1 ≤ n) × (n ≤ 13)
     go true e = absurd (let z : _≡_ {A = ℕ} 0 1 = cc in omega arith)
     go false e = let z : noRoom ≡ n = cc in (omega arith, omega arith)
 

@@ -14,7 +14,8 @@ use Rattle.formats.proofs.Steps.{tail}
 use Rattle.fields.specs.Integers.{strict}
 use Rattle.house.specs.declared.Head.{Head}
 use Rattle.house.specs.declared.Contact.{Contact}
-use Rattle.touch.specs.Touch.{Frame, headOf, contact, frameHead, frame}
+use Rattle.framing.specs.Frame.{Frame, headOf}
+use Rattle.touch.specs.Touch.{contact, frameHead, frame}
 use Rattle.touch.proofs.Passes.{frameBy, frame-got, next-got}
 use Rattle.frame_records.specs.Frames.{Found, nowhere, FindsFrame, FindsHeadAt, FindsHead}
 use Rattle.frame_records.specs.declared.FoundFrame.{FoundFrame}
@@ -70,13 +71,13 @@ module _ (l : List ℕ) (at : ℕ) (r : FoundFrame) (here : FindsFrame (take (le
       record { begins = omega arith; ends = omega arith }
 
   -- where the frame can be read, it is the one that was found
-  pub found-at : (f : Frame) (t : List ℕ) → frameBy false (drop at l) ≡ got f t → Found (drop at l) f t r
+  pub found-at : (f : Frame Contact) (t : List ℕ) → frameBy false (drop at l) ≡ got f t → Found (drop at l) f t r
   found-at f t e = let h : FindsFrame (drop at l) r = rw (tail l at) at here in rw e at (h .found)
 
 -- a frame whose head was found, and of whose contacts it is known where they end
 pub found-by-head : (l : List ℕ) (at : ℕ) (h : FoundHead) (end : ℕ) → FindsHead (take (length l - at) (drop at l)) h
     → ((cs : List Contact) (t : List ℕ) → times (h .head .count) (contact strict) .read (drop (at + h .contacts) l) ≡ got cs t → drop end (drop (at + h .contacts) l) ≡ t)
-    → (f : Frame) (t : List ℕ) → frameBy false (drop at l) ≡ got f t
+    → (f : Frame Contact) (t : List ℕ) → frameBy false (drop at l) ≡ got f t
     → Found (drop at l) f t (record { head = h .head; contacts = h .contacts; end = h .contacts + end })
 found-by-head l at h end here ends f t e =
     let r = frame-got false (drop at l) f t e in
@@ -92,18 +93,18 @@ found-by-head l at h end here ends f t e =
       rest = sym (drop-drop end (h .contacts) (drop at l)) ∙ ap (drop end) (drop-drop (h .contacts) at l) ∙ ends (f .contacts) t (rw n cs);
     }
 
-module _ (l : List ℕ) (at : ℕ) (r : FoundFrame) (here : (f : Frame) (t : List ℕ) → frameBy false (drop at l) ≡ got f t → Found (drop at l) f t r) where
+module _ (l : List ℕ) (at : ℕ) (r : FoundFrame) (here : (f : Frame Contact) (t : List ℕ) → frameBy false (drop at l) ≡ got f t → Found (drop at l) f t r) where
   -- the frame that is next of those to come
-  pub record Turn (t : List ℕ) (left : ℕ) (more : List Frame) : Type 0 where
-    pub frame : Frame
+  pub record Turn (t : List ℕ) (left : ℕ) (more : List (Frame Contact)) : Type 0 where
+    pub frame : Frame Contact
     pub head : r .head ≡ headOf frame
     pub read : frameBy false (drop at l) ≡ got frame (drop (at + r .end) l)
     pub contacts : times (r .head .count) (contact strict) .read (drop (at + r .contacts) l) ≡ got (frame .contacts) (drop (at + r .end) l)
-    pub others : List Frame
+    pub others : List (Frame Contact)
     pub all : more ≡ frame ∷ others
     pub after : readSeries frameBy false (left - 1) (drop (at + r .end) l) ≡ got others t
 
-  pub turn : (t : List ℕ) (left : ℕ) (more : List Frame) → 0 < left → readSeries frameBy false left (drop at l) ≡ got more t → Turn t left more
+  pub turn : (t : List ℕ) (left : ℕ) (more : List (Frame Contact)) → 0 < left → readSeries frameBy false left (drop at l) ≡ got more t → Turn t left more
   turn t left more h e =
       let m = next-got (frame strict) false left (drop at l) more t h e in
       let x = here (m .head) (m .after) (m .one) in

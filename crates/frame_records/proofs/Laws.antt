@@ -13,32 +13,33 @@ use Rattle.house.specs.Layout.{headBytes, contactBytes, touched}
 use Rattle.house.specs.declared.Head.{Head}
 use Rattle.house.specs.declared.Contact.{Contact}
 use Rattle.house.proofs.Round.{length-head, length-contact}
-use Rattle.touch.specs.Touch.{Frame, headOf, contact, contactsBytes, frameBytes, framesBytes}
+use Rattle.framing.specs.Frame.{Frame, headOf, contactsBytes, frameBytes, framesBytes}
+use Rattle.touch.specs.Touch.{contact, touchRecord}
 use Rattle.frame_records.specs.Frames.{recordsIn}
 
 -- ---- one more
 
-pub contacts-cons : (c : Contact) (cs : List Contact) → contactsBytes (c ∷ cs) ≡ contactBytes touched c ++ contactsBytes cs
+pub contacts-cons : (c : Contact) (cs : List Contact) → contactsBytes touchRecord (c ∷ cs) ≡ contactBytes touched c ++ contactsBytes touchRecord cs
 unfolding contactsBytes
 contacts-cons c cs = refl
 
-pub contacts-none : contactsBytes [] ≡ []
+pub contacts-none : contactsBytes touchRecord [] ≡ []
 unfolding contactsBytes
 contacts-none = refl
 
-pub frames-cons : (f : Frame) (fs : List Frame) → framesBytes (f ∷ fs) ≡ frameBytes f ++ framesBytes fs
+pub frames-cons : (f : Frame Contact) (fs : List (Frame Contact)) → framesBytes touchRecord (f ∷ fs) ≡ frameBytes touchRecord f ++ framesBytes touchRecord fs
 unfolding framesBytes
 frames-cons f fs = refl
 
-pub frames-none : framesBytes [] ≡ []
+pub frames-none : framesBytes touchRecord [] ≡ []
 unfolding framesBytes
 frames-none = refl
 
-pub frame-is : (f : Frame) → frameBytes f ≡ headBytes (headOf f) ++ contactsBytes (f .contacts)
+pub frame-is : (f : Frame Contact) → frameBytes touchRecord f ≡ headBytes (headOf f) ++ contactsBytes touchRecord (f .contacts)
 unfolding frameBytes
 frame-is f = refl
 
-pub records-cons : (f : Frame) (fs : List Frame) → recordsIn (f ∷ fs) ≡ suc (length (f .contacts)) + recordsIn fs
+pub records-cons : (f : Frame Contact) (fs : List (Frame Contact)) → recordsIn (f ∷ fs) ≡ suc (length (f .contacts)) + recordsIn fs
 unfolding recordsIn
 records-cons f fs = refl
 
@@ -48,42 +49,42 @@ records-none = refl
 
 -- ---- lengths
 
-pub length-contacts : (cs : List Contact) → length (contactsBytes cs) ≡ 21 * length cs
+pub length-contacts : (cs : List Contact) → length (contactsBytes touchRecord cs) ≡ 21 * length cs
 unfolding contactsBytes
 length-contacts [] = refl
 length-contacts (c ∷ cs) = rw (length-append, length-contact touched c, length-contacts cs) (omega arith)
 
 -- of n contacts that were read
-pub length-read : (n : ℕ) (l : List ℕ) (cs : List Contact) (t : List ℕ) → times n (contact strict) .read l ≡ got cs t → length (contactsBytes cs) ≡ 21 * n
+pub length-read : (n : ℕ) (l : List ℕ) (cs : List Contact) (t : List ℕ) → times n (contact strict) .read l ≡ got cs t → length (contactsBytes touchRecord cs) ≡ 21 * n
 length-read n l cs t e = length-contacts cs ∙ ap (λ (k : ℕ). 21 * k) (series-length (λ b. contact strict) false n l cs t e)
 
 -- of a head and its contacts that were read
-pub length-written : (h : Head) (l : List ℕ) (cs : List Contact) (t : List ℕ) → times (h .count) (contact strict) .read l ≡ got cs t → length (headBytes h ++ contactsBytes cs) ≡ 21 * (h .count + 1)
+pub length-written : (h : Head) (l : List ℕ) (cs : List Contact) (t : List ℕ) → times (h .count) (contact strict) .read l ≡ got cs t → length (headBytes h ++ contactsBytes touchRecord cs) ≡ 21 * (h .count + 1)
 length-written h l cs t e = rw (length-append, length-head h, length-read (h .count) l cs t e) (omega arith)
 
-pub length-frame : (f : Frame) → length (frameBytes f) ≡ 21 * (length (f .contacts) + 1)
+pub length-frame : (f : Frame Contact) → length (frameBytes touchRecord f) ≡ 21 * (length (f .contacts) + 1)
 unfolding frameBytes
 length-frame f = rw (length-append, length-head (headOf f), length-contacts (f .contacts)) (omega arith)
 
 -- 21 bytes a record
-pub length-frames : (fs : List Frame) → length (framesBytes fs) ≡ 21 * recordsIn fs
+pub length-frames : (fs : List (Frame Contact)) → length (framesBytes touchRecord fs) ≡ 21 * recordsIn fs
 unfolding framesBytes recordsIn
 length-frames [] = refl
 length-frames (f ∷ fs) = rw (length-append, length-frame f, length-frames fs) (omega arith)
 
 -- ---- parts
 
-pub contacts-append : (cs ds : List Contact) → contactsBytes (cs ++ ds) ≡ contactsBytes cs ++ contactsBytes ds
+pub contacts-append : (cs ds : List Contact) → contactsBytes touchRecord (cs ++ ds) ≡ contactsBytes touchRecord cs ++ contactsBytes touchRecord ds
 unfolding contactsBytes
 contacts-append [] ds = refl
 contacts-append (c ∷ cs) ds = rw (contacts-append cs ds, append-assoc)
 
-pub frames-append : (fs gs : List Frame) → framesBytes (fs ++ gs) ≡ framesBytes fs ++ framesBytes gs
+pub frames-append : (fs gs : List (Frame Contact)) → framesBytes touchRecord (fs ++ gs) ≡ framesBytes touchRecord fs ++ framesBytes touchRecord gs
 unfolding framesBytes
 frames-append [] gs = refl
 frames-append (f ∷ fs) gs = rw (frames-append fs gs, append-assoc)
 
-pub records-append : (fs gs : List Frame) → recordsIn (fs ++ gs) ≡ recordsIn fs + recordsIn gs
+pub records-append : (fs gs : List (Frame Contact)) → recordsIn (fs ++ gs) ≡ recordsIn fs + recordsIn gs
 unfolding recordsIn
 records-append [] gs = omega arith
 records-append (f ∷ fs) gs = rw (records-append fs gs) (omega arith)

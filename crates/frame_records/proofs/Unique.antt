@@ -12,7 +12,8 @@ use Rattle.formats.specs.Format.{Got, got, bad, times}
 use Rattle.fields.specs.Integers.{strict}
 use Rattle.house.specs.declared.Head.{Head}
 use Rattle.house.specs.declared.Contact.{Contact}
-use Rattle.touch.specs.Touch.{Frame, headOf, contact, frameHead, frame}
+use Rattle.framing.specs.Frame.{Frame, headOf}
+use Rattle.touch.specs.Touch.{contact, frameHead, frame}
 use Rattle.frame_records.specs.Frames.{WritesFrame, Finds, FindsFrame, FindsHeadAt, FindsHead}
 use Rattle.frame_records.specs.declared.FoundFrame.{FoundFrame}
 use Rattle.frame_records.specs.declared.FoundHead.{FoundHead}
@@ -30,7 +31,7 @@ place l m n hm hn e = omega (arith, length-drop m l, length-drop n l, ap length 
 pub find-frame-unique : (l : List ℕ) (r s : FoundFrame) → FindsFrame l r → FindsFrame l s → r ≡ s
 find-frame-unique l r s p q = go (frame strict false .read l) (p .found) (q .found)
   where
-    go : (x : Got Frame) → Finds x l r → Finds x l s → r ≡ s
+    go : (x : Got (Frame Contact)) → Finds x l r → Finds x l s → r ≡ s
     go (bad e) a b = a ∙ sym b
     go (got f t) a b =
         let h : r .head ≡ s .head = a .head ∙ sym (b .head) in

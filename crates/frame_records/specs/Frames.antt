@@ -11,26 +11,27 @@ use Rattle.fields.specs.Integers.{strict}
 use Rattle.house.specs.Layout.{headBytes}
 use Rattle.house.specs.declared.Head.{Head}
 use Rattle.house.specs.declared.Contact.{Contact}
-use Rattle.touch.specs.Touch.{Frame, headOf, contact, frameHead, frame, contactsBytes}
+use Rattle.framing.specs.Frame.{Frame, headOf, contactsBytes}
+use Rattle.touch.specs.Touch.{contact, frameHead, frame, touchRecord}
 use Rattle.frame_records.specs.declared.FoundFrame.{FoundFrame}
 use Rattle.frame_records.specs.declared.FoundHead.{FoundHead}
 
 -- how many records frames have: each a head and its contacts
-unfoldable pub recordsIn : List Frame → ℕ
+unfoldable pub recordsIn : List (Frame Contact) → ℕ
 recordsIn [] = 0
 recordsIn (f ∷ fs) = suc (length (f .contacts)) + recordsIn fs
 
 -- THE CONTRACT OF WRITING A FRAME: of its head and the bytes l from its first contact on. Where its contacts cannot be read nothing is said.
 abbrev pub WritesFrame : Head → List ℕ → Written → List ℕ → List ℕ → Type 0
 WritesFrame head l w before after =
-    (cs : List Contact) (t : List ℕ) → times (head .count) (contact strict) .read l ≡ got cs t → Writes (bytes (headBytes head ++ contactsBytes cs)) w before after
+    (cs : List Contact) (t : List ℕ) → times (head .count) (contact strict) .read l ≡ got cs t → Writes (bytes (headBytes head ++ contactsBytes touchRecord cs)) w before after
 
 -- of n contacts, where there is room for their records
 abbrev pub WritesContacts : ℕ → List ℕ → List ℕ → List ℕ → Type 0
-WritesContacts n l before after = (cs : List Contact) (t : List ℕ) → times n (contact strict) .read l ≡ got cs t → after ≡ laid before (contactsBytes cs)
+WritesContacts n l before after = (cs : List Contact) (t : List ℕ) → times n (contact strict) .read l ≡ got cs t → after ≡ laid before (contactsBytes touchRecord cs)
 
 -- where a frame stands that is read at the front of l, with t behind it
-pub record Found (l : List ℕ) (f : Frame) (t : List ℕ) (r : FoundFrame) : Type 0 where
+pub record Found (l : List ℕ) (f : Frame Contact) (t : List ℕ) (r : FoundFrame) : Type 0 where
   pub head : r .head ≡ headOf f
   pub headed : frameHead strict false .read l ≡ got (headOf f) (drop (r .contacts) l)
   pub contacts : times (length (f .contacts)) (contact strict) .read (drop (r .contacts) l) ≡ got (f .contacts) t
@@ -40,7 +41,7 @@ pub record Found (l : List ℕ) (f : Frame) (t : List ℕ) (r : FoundFrame) : Ty
 abbrev pub nowhere : FoundFrame
 nowhere = record { head = record { count = 0; offset = record { 0 = 0 } }; contacts = 0; end = 0 }
 
-abbrev pub Finds : Got Frame → List ℕ → FoundFrame → Type 0
+abbrev pub Finds : Got (Frame Contact) → List ℕ → FoundFrame → Type 0
 Finds (got f t) l r = Found l f t r
 Finds (bad e) l r = r ≡ nowhere
 

@@ -15,7 +15,7 @@ use Rattle.house.specs.WellFormed.{wellFormed, contactWell}
 use Rattle.house.specs.Fits.{HeadFits, ContactFits}
 use Rattle.house.specs.declared.Head.{Head}
 use Rattle.house.specs.declared.Contact.{Contact}
-use Rattle.touch.specs.Touch.{Frame, headOf}
+use Rattle.framing.specs.Frame.{Frame, headOf}
 
 -- a whole and well-formed record of a kind stands at the front
 abbrev pub stands : ℕ → List ℕ → Bool
@@ -38,7 +38,7 @@ contactRecord =
     }
 
 -- a frame: a head, then its count of contacts
-unfoldable pub frameRecords : Format Frame
+unfoldable pub frameRecords : Format (Frame Contact)
 frameRecords =
     field headRecord headOf λ h.
     field (times (h .count) contactRecord) (λ f. f .contacts) λ cs.
@@ -52,5 +52,5 @@ readAll r (suc n) [] = got [] []
 readAll r (suc n) (x ∷ l) = andThen (r (x ∷ l)) (λ a t. andThen (readAll r n t) (λ more u. got (a ∷ more) u))
 
 -- the frames of a slice of records ("an empty slice means no frames")
-unfoldable pub framesIn : List ℕ → Got (List Frame)
+unfoldable pub framesIn : List ℕ → Got (List (Frame Contact))
 framesIn l = readAll (frameRecords .read) (length l) l

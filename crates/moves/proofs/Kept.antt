@@ -15,7 +15,8 @@ use Rattle.fields.specs.Integers.{strict}
 use Rattle.states.specs.Table.{out, hovering}
 use Rattle.house.specs.declared.Point.{Point}
 use Rattle.house.specs.declared.Contact.{Contact}
-use Rattle.touch.specs.Touch.{Frame, contact}
+use Rattle.framing.specs.Frame.{Frame}
+use Rattle.touch.specs.Touch.{contact}
 use Rattle.contacts.specs.Table.{Table, contacts, stateAt, placeAt, withContact, origin, resting, countActive}
 use Rattle.contacts.specs.Conforms.{Rules, nextOf, placeIn, moved, after}
 use Rattle.contacts.specs.Machine.{Machine, Verdict, injected, ignored, cancelled, verdict, machineAfter, stepMachine, runMachine, dismissTable, dismissBytes}
@@ -73,11 +74,11 @@ module _ (rules : Rules) where
   verdict-placed m cs ignored w h = h
   verdict-placed m cs cancelled w h = resting-placed
 
-  pub step-placed : (m : Machine) (f : Frame) → Whole (m .table) → Placed (m .table) → Placed (stepMachine rules m f .table)
+  pub step-placed : (m : Machine) (f : Frame Contact) → Whole (m .table) → Placed (m .table) → Placed (stepMachine rules m f .table)
   unfolding stepMachine
   step-placed m f w h = verdict-placed m (f .contacts) (verdict rules m (f .contacts)) w h
 
-  pub run-placed : (m : Machine) (fs : List Frame) → Whole (m .table) → Placed (m .table) → Placed (runMachine rules m fs .table)
+  pub run-placed : (m : Machine) (fs : List (Frame Contact)) → Whole (m .table) → Placed (m .table) → Placed (runMachine rules m fs .table)
   unfolding runMachine
   run-placed m [] w h = h
   run-placed m (f ∷ fs) w h = run-placed (stepMachine rules m f) fs (step-whole rules m f w) (step-placed m f w h)

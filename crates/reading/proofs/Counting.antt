@@ -7,7 +7,8 @@ use native.Mathlib.Omega.{arith}
 use lib.ListN.{length, take, drop}
 use Rattle.formats.specs.Format.{got}
 use Rattle.formats.proofs.Steps.{series-end}
-use Rattle.touch.specs.Touch.{Frame}
+use Rattle.house.specs.declared.Contact.{Contact}
+use Rattle.framing.specs.Frame.{Frame}
 use Rattle.touch.proofs.Passes.{frameBy}
 use Rattle.house.specs.declared.Head.{Head}
 use Rattle.frame_records.specs.Frames.{recordsIn, FindsFrame}
@@ -17,12 +18,12 @@ use Rattle.frame_records.proofs.Finding.{found-at, turn}
 use Rattle.reading.specs.Passes.{frames}
 
 -- l is read; of the whole, with t behind it, `left` frames are to come from `at` on
-pub record Counting (l : List ℕ) (whole : List Frame) (t : List ℕ) (records at left : ℕ) : Type 0 where
-  pub more : List Frame
+pub record Counting (l : List ℕ) (whole : List (Frame Contact)) (t : List ℕ) (records at left : ℕ) : Type 0 where
+  pub more : List (Frame Contact)
   pub read : frames left .read (drop at l) ≡ got more t
   pub same : records + recordsIn more ≡ recordsIn whole
 
-module _ (l : List ℕ) (whole : List Frame) (t : List ℕ) where
+module _ (l : List ℕ) (whole : List (Frame Contact)) (t : List ℕ) where
   pub counting-first : (n : ℕ) → frames n .read l ≡ got whole t → Counting l whole t 0 0 n
   counting-first n e = record { more = whole; read = e; same = omega arith }
 

@@ -7,7 +7,9 @@ use lib.ListN.{length, drop}
 use Rattle.slices.specs.Writing.{laid}
 use Rattle.formats.specs.Format.{Format, got, bad, series}
 use Rattle.fields.specs.Integers.{strict}
-use Rattle.touch.specs.Touch.{Frame, Touch, touchHeadOf, frame, framesBytes}
+use Rattle.house.specs.declared.Contact.{Contact}
+use Rattle.framing.specs.Frame.{Frame, framesBytes}
+use Rattle.touch.specs.Touch.{Touch, touchHeadOf, frame, touchRecord}
 use Rattle.touch.specs.declared.TouchHead.{TouchHead}
 use Rattle.touch.specs.declared.CheckedBody.{CheckedBody}
 use Rattle.touch.specs.declared.CheckedBody.the-variants as CheckedBody
@@ -15,7 +17,7 @@ use Rattle.frame_records.specs.Frames.{recordsIn}
 use Rattle.reading.specs.Plain.{plainly}
 
 -- n frames, whose offsets are not judged
-abbrev pub frames : ℕ → Format (List Frame)
+abbrev pub frames : ℕ → Format (List (Frame Contact))
 frames n = series (frame strict) false n
 
 -- a message that is read: what stands before its frames, and that these begin at at
@@ -32,15 +34,15 @@ Judges l (CheckedBody.Refused e) = plainly l ≡ bad e
 
 -- r is how many records n frames have, if they can be read
 pub record Counts (n : ℕ) (l : List ℕ) (r : ℕ) : Type 0 where
-  pub same : (fs : List Frame) (t : List ℕ) → frames n .read l ≡ got fs t → r ≡ recordsIn fs
+  pub same : (fs : List (Frame Contact)) (t : List ℕ) → frames n .read l ≡ got fs t → r ≡ recordsIn fs
   pub most : r ≤ 256 * n
 
 -- n frames can be read, and there is room for their records
 pub record Roomy (n : ℕ) (l : List ℕ) (room : ℕ) : Type 0 where
-  pub whole : List Frame
+  pub whole : List (Frame Contact)
   pub read : frames n .read l ≡ got whole []
-  pub fits : length (framesBytes whole) ≤ room
+  pub fits : length (framesBytes touchRecord whole) ≤ room
 
 -- their records are written, and nothing past them
 abbrev pub WritesFrames : ℕ → List ℕ → List ℕ → List ℕ → Type 0
-WritesFrames n l before after = (fs : List Frame) (t : List ℕ) → frames n .read l ≡ got fs t → after ≡ laid before (framesBytes fs)
+WritesFrames n l before after = (fs : List (Frame Contact)) (t : List ℕ) → frames n .read l ≡ got fs t → after ≡ laid before (framesBytes touchRecord fs)

@@ -12,7 +12,8 @@ use Rattle.fields.specs.Integers.{strict}
 use Rattle.house.specs.Fields.{recordBytes}
 use Rattle.messages.specs.Header.{readMessage}
 use Rattle.messages.specs.Header as event
-use Rattle.touch.specs.Touch.{Touch, touch, framesBytes}
+use Rattle.framing.specs.Frame.{framesBytes}
+use Rattle.touch.specs.Touch.{Touch, touch, touchRecord}
 use Rattle.reading.specs.declared.PlainAnswer.{PlainAnswer}
 
 -- what a message says: checks 1 to 4, the body left to right, 12
@@ -21,7 +22,7 @@ plainly l = readMessage event.touch (touch strict false) l
 
 -- what is written, given room: the records of its frames
 abbrev pub draftOf : Got Touch → Draft
-draftOf (got m t) = bytes (framesBytes (m .frames))
+draftOf (got m t) = bytes (framesBytes touchRecord (m .frames))
 draftOf (bad e) = refuse e
 
 abbrev pub timeOf : Got Touch → Milliseconds

@@ -16,7 +16,9 @@ use Rattle.messages.specs.Header.{headed, headerBytes, clientReady, touch}
 use Rattle.messages.specs.Bodies.{ready}
 use Rattle.messages.specs.declared.Ready.{Ready}
 use Rattle.messages.proofs.Laws.{headed-got}
-use Rattle.touch.specs.Touch.{Frame, Touch, body}
+use Rattle.house.specs.declared.Contact.{Contact}
+use Rattle.framing.specs.Frame.{Frame}
+use Rattle.touch.specs.Touch.{Touch, body}
 use Rattle.receiver.specs.declared.Receiver.{Receiver}
 use Rattle.receiver.specs.declared.Answer.{Answer}
 use Rattle.receiver.specs.Receive.{off, judged, takes, Effect, settled, touched, dismissedBy, bodyEffect, effect, draftOf, refusal, answerOf, receiverAfter, answerAfter}
@@ -87,7 +89,7 @@ module _ (r : Receiver) (l : List ℕ) where
 
 -- ---- lent some room: the receiver, the bytes written, the answer and the frames accepted
 
-pub data Became (r : Receiver) (l : List ℕ) : Receiver → List ℕ → Answer → List Frame → Type 0 where
+pub data Became (r : Receiver) (l : List ℕ) : Receiver → List ℕ → Answer → List (Frame Contact) → Type 0 where
   refused : (n : ℕ) → Became r l r [] (refusal n) []
   settles : (s : Ready) → off (r .ready) ≡ true → Became r l (settled r s .receiver) [] (answerOf (settled r s)) []
   touches : (m : Touch) (t : List ℕ) → off (r .ready) ≡ false → body strict (judged r) (drop headerBytes l) ≡ got m t
@@ -95,7 +97,7 @@ pub data Became (r : Receiver) (l : List ℕ) : Receiver → List ℕ → Answer
   dismisses : (id : ℕ) (t : List ℕ) → off (r .ready) ≡ false → whole byte trailing (drop headerBytes l) ≡ got id t
       → Became r l (dismissedBy r id .receiver) (dismissedBy r id .bytes) (answerOf (dismissedBy r id)) []
 
-abbrev empty : List Frame
+abbrev empty : List (Frame Contact)
 empty = []
 
 module _ (r : Receiver) (l : List ℕ) (room : ℕ) where
@@ -112,12 +114,12 @@ module _ (r : Receiver) (l : List ℕ) (room : ℕ) where
   unfolding receiverAfter answerAfter given
   of-bad n k = rw (none-either (eqb n none)) (refused n)
 
-  abbrev OfRoom : Effect → List Frame → Bool → Type 0
+  abbrev OfRoom : Effect → List (Frame Contact) → Bool → Type 0
   OfRoom e fs b =
       let a : Answer = cond b (answerOf e) (refusal noRoom) in
       Became r l (cond b (e .receiver) r) (writtenBy (cond b (bytes (e .bytes)) (refuse noRoom))) a (cond (eqb (a .refusal) none) fs [])
 
-  of-room : (e : Effect) (fs : List Frame) → Became r l (e .receiver) (e .bytes) (answerOf e) fs → (b : Bool) → OfRoom e fs b
+  of-room : (e : Effect) (fs : List (Frame Contact)) → Became r l (e .receiver) (e .bytes) (answerOf e) fs → (b : Bool) → OfRoom e fs b
   of-room e fs h true = h
   of-room e fs h false = refused noRoom
 

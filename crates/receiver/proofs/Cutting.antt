@@ -19,7 +19,9 @@ use Rattle.fields.specs.Integers.{strict}
 use Rattle.messages.specs.Header.{headerBytes, mostBytes, headed, touch}
 use Rattle.messages.specs.declared.Ready.{Ready}
 use Rattle.messages.proofs.Laws.{headed-got, headed-good, message-back, message-got}
-use Rattle.touch.specs.Touch.{Frame, Touch, offset, frameHead, frame, touchHead, body}
+use Rattle.house.specs.declared.Contact.{Contact}
+use Rattle.framing.specs.Frame.{Frame}
+use Rattle.touch.specs.Touch.{Touch, offset, frameHead, frame, touchHead, body}
 use Rattle.touch.specs.Touch as format
 use Rattle.touch.proofs.Laws.{strict-touch-law}
 use Rattle.receiver.specs.declared.Receiver.{Receiver}
@@ -34,7 +36,7 @@ offset-free : (b : Bool) (o : ℕ) → offset strict b .Holds o → offset stric
 offset-free true o h = h .0
 offset-free false o h = h
 
-frame-free : (b : Bool) (f : Frame) → frame strict b .Holds f → frame strict false .Holds f
+frame-free : (b : Bool) (f : Frame Contact) → frame strict b .Holds f → frame strict false .Holds f
 unfolding frame frameHead
 frame-free b f h = ((h .0 .0, (offset-free b (f .offset .0) (h .0 .1 .0), h .0 .1 .1)), h .1)
 
@@ -57,7 +59,7 @@ offset-write : (b : Bool) (o : ℕ) → offset strict b .write o ≡ offset stri
 offset-write true o = refl
 offset-write false o = refl
 
-frame-write : (b : Bool) (f : Frame) → frame strict b .write f ≡ frame strict false .write f
+frame-write : (b : Bool) (f : Frame Contact) → frame strict b .write f ≡ frame strict false .write f
 unfolding frame frameHead
 frame-write b f = rw (offset-write b (f .offset .0))
 
@@ -73,7 +75,7 @@ count-length : (n : ℕ) → n ≤ 64 → length (writing 1 0 0 n) ≡ 1
 unfolding formed fewest digits
 count-length n h = rw (lt-ltb n 128 (omega arith))
 
-module _ (time : Milliseconds) (fs gs : List Frame) (b : Bool) where
+module _ (time : Milliseconds) (fs gs : List (Frame Contact)) (b : Bool) where
   abbrev all : Touch
   all = record { time = time; frames = fs ++ gs }
 
@@ -128,7 +130,7 @@ rested-reads s m h k =
     let e = headed-good (takes (rested s)) l (g .head .low) (g .head .high) (rw (g .head .event) (takes-touch s)) (g .head .long) in
     rw (e, g .head .event, unjudged s) (g .rest)
 
-pub rest-of-message : (r : Receiver) (l : List ℕ) → Bytes l → (time : Milliseconds) (fs gs : List Frame) → touchIn r l ≡ got (record { time = time; frames = fs ++ gs }) []
+pub rest-of-message : (r : Receiver) (l : List ℕ) → Bytes l → (time : Milliseconds) (fs gs : List (Frame Contact)) → touchIn r l ≡ got (record { time = time; frames = fs ++ gs }) []
     → touchIn (rested (r .settings)) (messageOf (record { time = time; frames = gs })) ≡ got (record { time = time; frames = gs }) []
 rest-of-message r l hl time fs gs e =
     let b = judged r in

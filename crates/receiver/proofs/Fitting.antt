@@ -11,13 +11,14 @@ use Rattle.formats.proofs.Laws.{Sound, never, more-got}
 use Rattle.fields.specs.Integers.{strict}
 use Rattle.fields.proofs.Laws.{strict-law}
 use Rattle.house.specs.Fits.{HeadFits, ContactFits}
-use Rattle.touch.specs.Touch.{Frame, Touch, headOf, contact, frame, touchHead, touch, body}
+use Rattle.house.specs.declared.Contact.{Contact}
+use Rattle.framing.specs.Frame.{Frame, headOf, withoutOffset}
+use Rattle.touch.specs.Touch.{Touch, contact, frame, touchHead, touch, body}
 use Rattle.touch.specs.declared.TouchHead.{TouchHead}
 use Rattle.touch.proofs.Laws.{contact-law, frame-head-law, frame-law, touch-head-law}
 use Rattle.touch.proofs.Passes.{body-got, frame-got}
 use Rattle.touch.proofs.Ranges.{contact-read, frame-fits}
 use Rattle.receiver.specs.declared.Receiver.{Receiver}
-use Rattle.runs.specs.Runs.{withoutOffset}
 use Rattle.receiver.specs.Receive.{untimed, framesFor}
 
 -- each of a list
@@ -26,7 +27,7 @@ All P [] = Unit
 All P (a ∷ l) = P a × All P l
 
 -- a frame whose records hold it
-pub record FrameFits (f : Frame) : Type 0 where
+pub record FrameFits (f : Frame Contact) : Type 0 where
   pub head : HeadFits (headOf f)
   pub contacts : All ContactFits (f .contacts)
 
@@ -39,7 +40,7 @@ module _ {A : Type 0} (f : Bool → Format A) (P : A → Type 0) (sound : (b : B
       let m = more-got f first n l s t e in
       rw (m .all) (each first l (m .head) (m .after) hl (m .one), all-read false n (m .after) (m .rest) t (sound first l (m .head) (m .after) hl (m .one) .1) (m .others))
 
-frame-read : (judged : Bool) (l : List ℕ) (f : Frame) (t : List ℕ) → Bytes l → frame strict judged .read l ≡ got f t → FrameFits f
+frame-read : (judged : Bool) (l : List ℕ) (f : Frame Contact) (t : List ℕ) → Bytes l → frame strict judged .read l ≡ got f t → FrameFits f
 frame-read judged l f t hl e =
     let g = frame-got judged l f t e in
     let ha = frame-head-law strict strict-law judged .sound l (headOf f) (g .after) hl (g .head) .1 in
@@ -62,12 +63,12 @@ body-fits judged l m t hl e = go (touchHead strict .read l) refl
         all-read (frame strict) FrameFits (λ b. frame-law strict strict-law b .sound) frame-read judged (k .frames) after (m .frames) [] ha (b .frames)
 
 -- also with offset 0
-without-fits : (fs : List Frame) → All FrameFits fs → All FrameFits (map withoutOffset fs)
+without-fits : (fs : List (Frame Contact)) → All FrameFits fs → All FrameFits (map withoutOffset fs)
 without-fits [] h = tt
 without-fits (f ∷ fs) h =
     (record { head = record { count = h .0 .head .count; offset = lit< tt }; contacts = h .0 .contacts }, without-fits fs (h .1))
 
-pub frames-fit : (r : Receiver) (fs : List Frame) → All FrameFits fs → All FrameFits (framesFor r fs)
+pub frames-fit : (r : Receiver) (fs : List (Frame Contact)) → All FrameFits fs → All FrameFits (framesFor r fs)
 unfolding framesFor
 frames-fit r fs h = go (untimed r)
   where

@@ -11,7 +11,8 @@ use Rattle.digits.specs.Digits.{Bytes}
 use Rattle.slices.specs.Writing.{laid, given}
 use Rattle.formats.specs.Format.{got}
 use Rattle.states.specs.Table.{out, engaged}
-use Rattle.touch.specs.Touch.{Frame}
+use Rattle.house.specs.declared.Contact.{Contact}
+use Rattle.framing.specs.Frame.{Frame}
 use Rattle.contacts.specs.Table.{contacts, stateAt, placeAt, origin, countActive, resting}
 use Rattle.contacts.specs.Conforms.{Rules}
 use Rattle.contacts.specs.Machine.{Machine, cancelled, verdict, cancels, stepMachine, runMachine, runBytes}
@@ -79,16 +80,16 @@ each-contact's-records-are-a-legal-path = legal-path
 -- ---- "AFTER A CANCEL'S OWN RECORDS NOTHING IS WRITTEN UNTIL AN OPENING FRAME"
 
 -- Every cancelled frame leaves all contacts out of range, and the mode ignoring.
-pub a-cancelled-frame-leaves-rest-and-ignoring : (rules : Rules) (m : Machine) (f : Frame) → verdict rules m (f .contacts) ≡ cancelled → stepMachine rules m f ≡ record { table = resting; running = false }
+pub a-cancelled-frame-leaves-rest-and-ignoring : (rules : Rules) (m : Machine) (f : Frame Contact) → verdict rules m (f .contacts) ≡ cancelled → stepMachine rules m f ≡ record { table = resting; running = false }
 a-cancelled-frame-leaves-rest-and-ignoring = cancelled-machine
 
 -- Frames none of which opens leave a machine that ignores as it is, and write nothing.
-pub frames-that-do-not-open-are-ignored : (rules : Rules) (m : Machine) (fs : List Frame) → m .running ≡ false → unopened fs ≡ true → (runBytes rules m fs ≡ []) × (runMachine rules m fs ≡ m)
+pub frames-that-do-not-open-are-ignored : (rules : Rules) (m : Machine) (fs : List (Frame Contact)) → m .running ≡ false → unopened fs ≡ true → (runBytes rules m fs ≡ []) × (runMachine rules m fs ≡ m)
 frames-that-do-not-open-are-ignored rules m fs h u = (quiet-bytes rules m fs h u, quiet-machine rules m fs h u)
 
 -- Within a message: after the frames fs, the cancelled frame f writes its records; the frames gs, none of which opens, write nothing; and the
 -- frames hs after them are as to a machine at rest that ignores.
-pub after-a-cancelled-frame-nothing-until-an-opening-one : (rules : Rules) (m : Machine) (fs : List Frame) (f : Frame) (gs hs : List Frame)
+pub after-a-cancelled-frame-nothing-until-an-opening-one : (rules : Rules) (m : Machine) (fs : List (Frame Contact)) (f : Frame Contact) (gs hs : List (Frame Contact))
     → verdict rules (runMachine rules m fs) (f .contacts) ≡ cancelled → unopened gs ≡ true
     → let rest : Machine = record { table = resting; running = false } in
     (runBytes rules m (fs ++ (f ∷ (gs ++ hs))) ≡ (runBytes rules m fs ++ cancels (runMachine rules m fs .table)) ++ runBytes rules rest hs)
@@ -102,7 +103,7 @@ a-silent-receiver-writes-nothing-until-an-opening-frame r h k u = (after-quiet r
 
 -- Both: of an accepted message x with the frames fs, f, gs, where f is cancelled and none of gs opens, and of all messages after it, as long as
 -- no opening frame is accepted, nothing is written but the records of fs and the cancel's own.
-pub after-a-cancel-nothing-until-an-opening-frame : (r : Receiver) (x : Sent) (h : List Sent) (fs : List Frame) (f : Frame) (gs : List Frame)
+pub after-a-cancel-nothing-until-an-opening-frame : (r : Receiver) (x : Sent) (h : List Sent) (fs : List (Frame Contact)) (f : Frame Contact) (gs : List (Frame Contact))
     → framesTaken r x ≡ fs ++ (f ∷ gs) → CancelledAfter r fs f → unopened gs ≡ true → Unopened (next r x) h
     → (written r (x ∷ h) ≡ bytesAt r fs ++ cancels (machineAt r fs .table)) × Silent (after r (x ∷ h))
 after-a-cancel-nothing-until-an-opening-frame r x h fs f gs e v u k =
@@ -115,13 +116,13 @@ after-a-cancel-nothing-until-an-opening-frame r x h fs f gs e v u k =
 -- r is the receiver after any history. Its next message x has the opening frame f, before which no contact is active, in either mode; the
 -- rested receiver gets y instead, which begins with f; then both get the same messages, each lent whatever room.
 pub from-an-opening-frame-as-if-rested : (h : List Sent) → OfBytes h → let r : Receiver = after fresh h in
-    (x y : Sent) → Bytes (x .message) → (fs : List Frame) (f : Frame) (gs : List Frame) → Cut r x y fs f gs → opens f ≡ true → NoneActive (machineAt r fs .table)
+    (x y : Sent) → Bytes (x .message) → (fs : List (Frame Contact)) (f : Frame Contact) (gs : List (Frame Contact)) → Cut r x y fs f gs → opens f ≡ true → NoneActive (machineAt r fs .table)
     → (more others : List Sent) → messagesOf more ≡ messagesOf others → Roomy r (x ∷ more) → Roomy (rested (r .settings)) (y ∷ others)
     → AsRested r x y fs more others
 from-an-opening-frame-as-if-rested h b = as-rested (after fresh h) (history-kept h b)
 
 -- There always is such a y: the message of the same encodeTime and the frames from f on.
-pub a-rested-receiver-can-be-given-that-frame : (r : Receiver) (x : Sent) → Bytes (x .message) → (time : Milliseconds) (fs : List Frame) (f : Frame) (gs : List Frame)
+pub a-rested-receiver-can-be-given-that-frame : (r : Receiver) (x : Sent) → Bytes (x .message) → (time : Milliseconds) (fs : List (Frame Contact)) (f : Frame Contact) (gs : List (Frame Contact))
     → touchIn r (x .message) ≡ got (record { time = time; frames = fs ++ (f ∷ gs) }) []
     → (room : ℕ) → Cut r x (record { message = messageOf (record { time = time; frames = f ∷ gs }); room = room }) fs f gs
 a-rested-receiver-can-be-given-that-frame r x b time fs f gs e room =

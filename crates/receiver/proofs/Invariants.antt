@@ -12,14 +12,15 @@ use Rattle.digits.proofs.Laws.{bytes-drop}
 use Rattle.messages.specs.Header.{headerBytes}
 use Rattle.formats.specs.Format.{got}
 use Rattle.fields.specs.Integers.{strict}
-use Rattle.touch.specs.Touch.{Frame, Touch, body}
+use Rattle.house.specs.declared.Contact.{Contact}
+use Rattle.framing.specs.Frame.{Frame, withoutOffset}
+use Rattle.touch.specs.Touch.{Touch, body}
 use Rattle.contacts.specs.Table.{Table, resting, countActive}
 use Rattle.contacts.specs.Machine.{runMachine, runBytes}
 use Rattle.contacts.proofs.Table.{resting-count}
 use Rattle.contacts.proofs.Machine.{counts-total}
 use Rattle.receiver.specs.declared.Receiver.{Receiver}
 use Rattle.receiver.specs.declared.Answer.{Answer}
-use Rattle.runs.specs.Runs.{withoutOffset}
 use Rattle.receiver.specs.Receive.{off, mark, rulesOf, machineOf, fresh, untimed, framesFor, touched, judged}
 use Rattle.receiver.specs.History.{Sent, OfBytes, next, answerTo, after, tableOf, framesTaken}
 use Rattle.receiver.proofs.Became.{true-not-false, Became, became, refused, settles, touches, dismisses}
@@ -62,7 +63,7 @@ fresh-kept =
 pub message-fits : (r : Receiver) (l : List ℕ) (m : Touch) (t : List ℕ) → Bytes l → body strict (judged r) (drop headerBytes l) ≡ got m t → All FrameFits (framesFor r (m .frames))
 message-fits r l m t hl e = frames-fit r (m .frames) (body-fits (judged r) (drop headerBytes l) m t (bytes-drop headerBytes l hl) e)
 
-became-kept : (r : Receiver) (l : List ℕ) {q : Receiver} {s : List ℕ} {a : Answer} {fs : List Frame} → Bytes l → Kept r → Became r l q s a fs → Kept q
+became-kept : (r : Receiver) (l : List ℕ) {q : Receiver} {s : List ℕ} {a : Answer} {fs : List (Frame Contact)} → Bytes l → Kept r → Became r l q s a fs → Kept q
 unfolding touched
 became-kept r l hl k (refused n) = k
 became-kept r l hl k (settles s o) =
@@ -106,11 +107,11 @@ ready-one r k o = omega (arith, k .ready, eqb-false (r .ready) 0 o)
 
 -- ---- the counts of a message
 
-map-length : (fs : List Frame) → length (map withoutOffset fs) ≡ length fs
+map-length : (fs : List (Frame Contact)) → length (map withoutOffset fs) ≡ length fs
 map-length [] = refl
 map-length (f ∷ fs) = ap suc (map-length fs)
 
-frames-length : (r : Receiver) (fs : List Frame) → length (framesFor r fs) ≡ length fs
+frames-length : (r : Receiver) (fs : List (Frame Contact)) → length (framesFor r fs) ≡ length fs
 unfolding framesFor
 frames-length r fs = go (untimed r)
   where
@@ -118,7 +119,7 @@ frames-length r fs = go (untimed r)
     go true = map-length fs
     go false = refl
 
-became-counts : (r : Receiver) (l : List ℕ) {q : Receiver} {s : List ℕ} {a : Answer} {fs : List Frame} → Became r l q s a fs → a .injected + a .ignored + a .cancelled ≡ length fs
+became-counts : (r : Receiver) (l : List ℕ) {q : Receiver} {s : List ℕ} {a : Answer} {fs : List (Frame Contact)} → Became r l q s a fs → a .injected + a .ignored + a .cancelled ≡ length fs
 unfolding touched
 became-counts r l (refused n) = refl
 became-counts r l (settles s o) = refl

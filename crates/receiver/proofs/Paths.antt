@@ -22,7 +22,8 @@ use Rattle.house.specs.declared.Contact.{Contact}
 use Rattle.house.specs.declared.Record.{Record}
 use Rattle.house.specs.declared.Record.the-variants as Record
 use Rattle.house.proofs.Round.{length-head, length-contact, record-of-head, record-of-contact}
-use Rattle.touch.specs.Touch.{Frame, headOf, contactsBytes, frameBytes}
+use Rattle.framing.specs.Frame.{Frame, headOf, contactsBytes, frameBytes}
+use Rattle.touch.specs.Touch.{touchRecord}
 use Rattle.contacts.specs.Table.{Table, contacts, stateAt, placeAt, withContact, origin, resting, active}
 use Rattle.contacts.specs.Conforms.{every, distinct, nextOf, legal, sameNumber, samePlace, stays, placeIn, moved, after}
 use Rattle.contacts.specs.Machine.{Machine, stored, cancelFlags, cancelBytes, cancelsFrom, cancels, stepMachine, stepBytes, runMachine, runBytes, dismissTable, dismissBytes}
@@ -115,7 +116,7 @@ module _ (most id : ℕ) where
           (other-leads touchKind c (omega arith) (omega arith) f id (stateAt t id) (placeAt t id) n)
 
   contacts-lead : (t : Table) (cs : List Contact) → Sound t → All ContactFits cs → distinct cs ≡ true → every (legal (ruled most) t) cs ≡ true → every (stays t) cs ≡ true
-      → Moves id t (contactsBytes cs) (after (ruled most) t cs)
+      → Moves id t (contactsBytes touchRecord cs) (after (ruled most) t cs)
   unfolding contactsBytes after
   contacts-lead t [] h f d l k = leads-none id (stateAt t id) (placeAt t id)
   contacts-lead t (c ∷ cs) h f d l k =
@@ -125,12 +126,12 @@ module _ (most id : ℕ) where
       let i =
       contacts-lead u cs (moved-sound most t c h (f .0) lc) (f .1) (distinct-others c cs d)
       (legal-behind (ruled most) t c cs o ∙ every-others (legal (ruled most) t) c cs l) (stays-behind (ruled most) t c cs o ∙ every-others (stays t) c cs k) in
-      moves-then id t (contactBytes touchKind c) u (contactsBytes cs) (after (ruled most) u cs) (moved-leads t c h (f .0) lc (every-first (stays t) c cs k)) i
+      moves-then id t (contactBytes touchKind c) u (contactsBytes touchRecord cs) (after (ruled most) u cs) (moved-leads t c h (f .0) lc (every-first (stays t) c cs k)) i
 
-  frame-leads : (t : Table) (f : Frame) → Sound t → FrameFits f → Conforming (ruled most) t (f .contacts) → Moves id t (frameBytes f) (after (ruled most) t (f .contacts))
+  frame-leads : (t : Table) (f : Frame Contact) → Sound t → FrameFits f → Conforming (ruled most) t (f .contacts) → Moves id t (frameBytes touchRecord f) (after (ruled most) t (f .contacts))
   unfolding frameBytes
   frame-leads t f h hf c =
-      moves-then id t (headBytes (headOf f)) t (contactsBytes (f .contacts)) (after (ruled most) t (f .contacts))
+      moves-then id t (headBytes (headOf f)) t (contactsBytes touchRecord (f .contacts)) (after (ruled most) t (f .contacts))
       (head-leads id (stateAt t id) (placeAt t id) (headOf f) (hf .head))
       (contacts-lead t (f .contacts) h (hf .contacts) (c .distinct) (c .legal) (c .stays))
 
@@ -289,7 +290,7 @@ unfolding fresh
 fresh-table = refl
 
 module _ (id : ℕ) (l : id < contacts) where
-  step-leads : (most : ℕ) (m : Machine) (f : Frame) → Steady most m → FrameFits f → Moves id (m .table) (stepBytes (ruled most) m f) (stepMachine (ruled most) m f .table)
+  step-leads : (most : ℕ) (m : Machine) (f : Frame Contact) → Steady most m → FrameFits f → Moves id (m .table) (stepBytes (ruled most) m f) (stepMachine (ruled most) m f .table)
   step-leads most m f h hf = go (judged (ruled most) m f)
     where
       go : {n : Machine} {s : List ℕ} → Judged (ruled most) m f n s → Moves id (m .table) s (n .table)
@@ -297,7 +298,7 @@ module _ (id : ℕ) (l : id < contacts) where
       go (ignores a b) = leads-none id (stateAt (m .table) id) (placeAt (m .table) id)
       go Judged.cancels = cancels-lead (m .table) (h .table) id l
 
-  run-leads : (most : ℕ) (m : Machine) (fs : List Frame) → Steady most m → All FrameFits fs → Moves id (m .table) (runBytes (ruled most) m fs) (runMachine (ruled most) m fs .table)
+  run-leads : (most : ℕ) (m : Machine) (fs : List (Frame Contact)) → Steady most m → All FrameFits fs → Moves id (m .table) (runBytes (ruled most) m fs) (runMachine (ruled most) m fs .table)
   unfolding runBytes runMachine
   run-leads most m [] h hf = leads-none id (stateAt (m .table) id) (placeAt (m .table) id)
   run-leads most m (f ∷ fs) h hf =
@@ -305,7 +306,7 @@ module _ (id : ℕ) (l : id < contacts) where
       moves-then id (m .table) (stepBytes (ruled most) m f) (n .table) (runBytes (ruled most) n fs) (runMachine (ruled most) n fs .table)
       (step-leads most m f h (hf .0)) (run-leads most n fs (step-steady most m f (hf .0) h) (hf .1))
 
-  became-leads : (r : Receiver) (m : List ℕ) {q : Receiver} {s : List ℕ} {a : Answer} {fs : List Frame} → Bytes m → Kept r → Became r m q s a fs → Moves id (tableOf r) s (tableOf q)
+  became-leads : (r : Receiver) (m : List ℕ) {q : Receiver} {s : List ℕ} {a : Answer} {fs : List (Frame Contact)} → Bytes m → Kept r → Became r m q s a fs → Moves id (tableOf r) s (tableOf q)
   unfolding touched
   became-leads r m b k (refused n) = leads-none id (stateAt (tableOf r) id) (placeAt (tableOf r) id)
   became-leads r m b k (settles s o) = leads-none id (stateAt (tableOf r) id) (placeAt (tableOf r) id)

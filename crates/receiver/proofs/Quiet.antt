@@ -8,7 +8,8 @@ use native.Mathlib.Omega.{arith}
 use borrow.Author.Tests.{not-true}
 use lib.ListN.{length, length-append}
 use Rattle.states.specs.Table.{hovering}
-use Rattle.touch.specs.Touch.{Frame}
+use Rattle.house.specs.declared.Contact.{Contact}
+use Rattle.framing.specs.Frame.{Frame, withoutOffset}
 use Rattle.contacts.specs.Table.{Table, resting, stateAt}
 use Rattle.contacts.specs.Conforms.{Rules, every}
 use Rattle.contacts.specs.Machine.{Machine, cancelled, verdict, cancels, runMachine, runBytes}
@@ -17,7 +18,6 @@ use Rattle.contacts.proofs.Conforms.{every-first, every-others}
 use Rattle.contacts.proofs.Machine.{verdict-other, ignored-machine, ignored-bytes, cancelled-machine, cancelled-bytes, machine-append, bytes-append, keep-table, keep-bytes}
 use Rattle.receiver.specs.declared.Receiver.{Receiver}
 use Rattle.receiver.specs.declared.Answer.{Answer}
-use Rattle.runs.specs.Runs.{withoutOffset}
 use Rattle.receiver.specs.Receive.{rulesOf, machineOf, untimed, framesFor, touched}
 use Rattle.receiver.specs.History.{Sent, next, wrote, after, written, tableOf, framesTaken, opens, unopened, Unopened, machineAt, bytesAt, CancelledAfter, Silent}
 use Rattle.receiver.proofs.Became.{Became, became, refused, settles, touches, dismisses}
@@ -25,17 +25,17 @@ use Rattle.receiver.proofs.Invariants.{machine-touched, bytes-touched}
 
 -- ---- frames with their offsets, or with offset 0: the contacts are the same
 
-abbrev pub frameFor : Receiver → Frame → Frame
+abbrev pub frameFor : Receiver → Frame Contact → Frame Contact
 frameFor r f = cond (untimed r) (withoutOffset f) f
 
-contacts-same : (r : Receiver) (f : Frame) → frameFor r f .contacts ≡ f .contacts
+contacts-same : (r : Receiver) (f : Frame Contact) → frameFor r f .contacts ≡ f .contacts
 contacts-same r f = go (untimed r)
   where
     go : (b : Bool) → cond b (withoutOffset f) f .contacts ≡ f .contacts
     go true = refl
     go false = refl
 
-pub frames-one : (r : Receiver) (f : Frame) (fs : List Frame) → framesFor r (f ∷ fs) ≡ frameFor r f ∷ framesFor r fs
+pub frames-one : (r : Receiver) (f : Frame Contact) (fs : List (Frame Contact)) → framesFor r (f ∷ fs) ≡ frameFor r f ∷ framesFor r fs
 unfolding framesFor
 frames-one r f fs = go (untimed r)
   where
@@ -47,18 +47,21 @@ frames-none : (r : Receiver) → framesFor r [] ≡ []
 unfolding framesFor
 frames-none r = go (untimed r)
   where
-    go : (b : Bool) → cond b (map withoutOffset []) [] ≡ []
+    empty : List (Frame Contact)
+    empty = []
+
+    go : (b : Bool) → cond b (map withoutOffset empty) empty ≡ empty
     go true = refl
     go false = refl
 
-pub frames-append : (r : Receiver) (fs gs : List Frame) → framesFor r (fs ++ gs) ≡ framesFor r fs ++ framesFor r gs
+pub frames-append : (r : Receiver) (fs gs : List (Frame Contact)) → framesFor r (fs ++ gs) ≡ framesFor r fs ++ framesFor r gs
 frames-append r [] gs = rw (frames-none r)
 frames-append r (f ∷ fs) gs = rw (frames-one r f (fs ++ gs), frames-one r f fs, frames-append r fs gs)
 
-pub opens-same : (r : Receiver) (f : Frame) → opens (frameFor r f) ≡ opens f
+pub opens-same : (r : Receiver) (f : Frame Contact) → opens (frameFor r f) ≡ opens f
 opens-same r f = rw (contacts-same r f)
 
-frames-unopened : (r : Receiver) (fs : List Frame) → unopened (framesFor r fs) ≡ unopened fs
+frames-unopened : (r : Receiver) (fs : List (Frame Contact)) → unopened (framesFor r fs) ≡ unopened fs
 unfolding unopened every
 frames-unopened r [] = rw (frames-none r)
 frames-unopened r (f ∷ fs) = rw (frames-one r f fs, contacts-same r f, frames-unopened r fs)
@@ -70,7 +73,7 @@ abbrev pub silenced : Machine
 silenced = record { table = resting; running = false }
 
 module _ (rules : Rules) where
-  pub quiet-machine : (m : Machine) (fs : List Frame) → m .running ≡ false → unopened fs ≡ true → runMachine rules m fs ≡ m
+  pub quiet-machine : (m : Machine) (fs : List (Frame Contact)) → m .running ≡ false → unopened fs ≡ true → runMachine rules m fs ≡ m
   unfolding runMachine unopened
   quiet-machine m [] h u = refl
   quiet-machine m (f ∷ fs) h u =
@@ -78,7 +81,7 @@ module _ (rules : Rules) where
       let v = verdict-other rules m (f .contacts) h o in
       rw (ignored-machine rules m f v) (quiet-machine m fs h (every-others (λ f. not (opens f)) f fs u))
 
-  pub quiet-bytes : (m : Machine) (fs : List Frame) → m .running ≡ false → unopened fs ≡ true → runBytes rules m fs ≡ []
+  pub quiet-bytes : (m : Machine) (fs : List (Frame Contact)) → m .running ≡ false → unopened fs ≡ true → runBytes rules m fs ≡ []
   unfolding runBytes unopened
   quiet-bytes m [] h u = refl
   quiet-bytes m (f ∷ fs) h u =
@@ -87,7 +90,7 @@ module _ (rules : Rules) where
       rw (ignored-machine rules m f v, ignored-bytes rules m f v) (quiet-bytes m fs h (every-others (λ f. not (opens f)) f fs u))
 
   -- a cancelled frame, the frames after it that do not open, and the others
-  module _ (m : Machine) (fs : List Frame) (f : Frame) (gs hs : List Frame) (v : verdict rules (runMachine rules m fs) (f .contacts) ≡ cancelled) (u : unopened gs ≡ true) where
+  module _ (m : Machine) (fs : List (Frame Contact)) (f : Frame Contact) (gs hs : List (Frame Contact)) (v : verdict rules (runMachine rules m fs) (f .contacts) ≡ cancelled) (u : unopened gs ≡ true) where
     pub cancel-machine : runMachine rules m (fs ++ (f ∷ (gs ++ hs))) ≡ runMachine rules silenced hs
     unfolding runMachine
     cancel-machine =
@@ -116,7 +119,7 @@ silent-machine q e = record { ignoring = ap (λ (m : Machine). m .running) e; re
 machine-silent : (r : Receiver) → Silent r → machineOf r ≡ silenced
 machine-silent r k = λ i. record { table = k .resting i; running = k .ignoring i }
 
-became-quiet : (r : Receiver) (l : List ℕ) {q : Receiver} {s : List ℕ} {a : Answer} {fs : List Frame} → Silent r → unopened fs ≡ true → Became r l q s a fs → Nothing q s
+became-quiet : (r : Receiver) (l : List ℕ) {q : Receiver} {s : List ℕ} {a : Answer} {fs : List (Frame Contact)} → Silent r → unopened fs ≡ true → Became r l q s a fs → Nothing q s
 became-quiet r l k u (refused n) = record { still = k; nothing = refl }
 became-quiet r l k u (settles s o) = record { still = record { ignoring = k .ignoring; resting = k .resting }; nothing = refl }
 became-quiet r l k u (touches m t o e) =
@@ -144,18 +147,18 @@ after-quiet r (x ∷ h) k u =
 -- ---- a cancelled frame in a message of a history
 
 -- up to a frame and after it
-pub record Since (r : Receiver) (fs : List Frame) (q : Receiver) (s : List ℕ) : Type 0 where
+pub record Since (r : Receiver) (fs : List (Frame Contact)) (q : Receiver) (s : List ℕ) : Type 0 where
   pub silent : Silent q
   pub own : s ≡ bytesAt r fs ++ cancels (machineAt r fs .table)
 
-no-frame : {P : Type 0} (fs gs : List Frame) (f : Frame) → [] ≡ fs ++ (f ∷ gs) → P
+no-frame : {P : Type 0} (fs gs : List (Frame Contact)) (f : Frame Contact) → [] ≡ fs ++ (f ∷ gs) → P
 no-frame fs gs f e = absurd (omega (arith, simp length-append at (ap length e)))
 
-module _ (r : Receiver) (l : List ℕ) (fs : List Frame) (f : Frame) (gs : List Frame) (v : CancelledAfter r fs f) (u : unopened gs ≡ true) where
+module _ (r : Receiver) (l : List ℕ) (fs : List (Frame Contact)) (f : Frame Contact) (gs : List (Frame Contact)) (v : CancelledAfter r fs f) (u : unopened gs ≡ true) where
   frames-parts : framesFor r (fs ++ (f ∷ gs)) ≡ framesFor r fs ++ (frameFor r f ∷ (framesFor r gs ++ []))
   frames-parts = frames-append r fs (f ∷ gs) ∙ rw (frames-one r f gs, append-nil)
 
-  became-silent : {q : Receiver} {s : List ℕ} {a : Answer} {ts : List Frame} → Became r l q s a ts → ts ≡ fs ++ (f ∷ gs) → Since r fs q s
+  became-silent : {q : Receiver} {s : List ℕ} {a : Answer} {ts : List (Frame Contact)} → Became r l q s a ts → ts ≡ fs ++ (f ∷ gs) → Since r fs q s
   unfolding runMachine runBytes
   became-silent (refused n) e = no-frame fs gs f e
   became-silent (settles s o) e = no-frame fs gs f e
@@ -171,7 +174,7 @@ module _ (r : Receiver) (l : List ℕ) (fs : List Frame) (f : Frame) (gs : List 
         own = bytes-touched r m ∙ (ap (runBytes (rulesOf r) (machineOf r)) p ∙ (ab ∙ append-nil _));
       }
 
-pub since-cancel : (r : Receiver) (x : Sent) (h : List Sent) (fs : List Frame) (f : Frame) (gs : List Frame) → framesTaken r x ≡ fs ++ (f ∷ gs) → CancelledAfter r fs f → unopened gs ≡ true
+pub since-cancel : (r : Receiver) (x : Sent) (h : List Sent) (fs : List (Frame Contact)) (f : Frame Contact) (gs : List (Frame Contact)) → framesTaken r x ≡ fs ++ (f ∷ gs) → CancelledAfter r fs f → unopened gs ≡ true
     → Unopened (next r x) h → Since r fs (after r (x ∷ h)) (written r (x ∷ h))
 unfolding after written
 since-cancel r x h fs f gs e v u k =

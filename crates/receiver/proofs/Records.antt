@@ -13,7 +13,8 @@ use Rattle.slices.specs.Writing.{bytes, refuse, given}
 use Rattle.formats.specs.Format.{Got, got, bad}
 use Rattle.states.specs.Table.{out, hovering}
 use Rattle.house.specs.Fields.{recordBytes}
-use Rattle.touch.specs.Touch.{Frame}
+use Rattle.house.specs.declared.Contact.{Contact}
+use Rattle.framing.specs.Frame.{Frame}
 use Rattle.frame_records.proofs.Laws.{length-frame}
 use Rattle.contacts.specs.Table.{Table, contacts, stateAt, origin, withContact}
 use Rattle.contacts.specs.Conforms.{Rules}
@@ -39,12 +40,12 @@ record Records (n : ℕ) : Type 0 where
 shared : (n : ℕ) → Records n → recordBytes * (n / recordBytes) ≡ n
 shared n k = omega (arith, k .is)
 
-verdict-records : (m : Machine) (f : Frame) (v : Verdict) → Records (length (bytesFor v m f))
+verdict-records : (m : Machine) (f : Frame Contact) (v : Verdict) → Records (length (bytesFor v m f))
 verdict-records m f injected = record { count = length (f .contacts) + 1; is = length-frame f }
 verdict-records m f ignored = record { count = 0; is = refl }
 verdict-records m f cancelled = record { count = _; is = cancels-from-length (m .table) 0 contacts }
 
-run-records : (rules : Rules) (m : Machine) (fs : List Frame) → Records (length (runBytes rules m fs))
+run-records : (rules : Rules) (m : Machine) (fs : List (Frame Contact)) → Records (length (runBytes rules m fs))
 unfolding runBytes stepBytes
 run-records rules m [] = record { count = 0; is = refl }
 run-records rules m (f ∷ fs) =
@@ -59,7 +60,7 @@ dismiss-records t id = go (eqb (stateAt t id) hovering) refl
     go true e = record { count = 1; is = dismiss-length t id (eqb-true (stateAt t id) hovering e) }
     go false e = record { count = 0; is = ap length (keep-bytes t id (eqb-false (stateAt t id) hovering e)) }
 
-became-records : (r : Receiver) (l : List ℕ) {q : Receiver} {s : List ℕ} {a : Answer} {fs : List Frame} → Became r l q s a fs → recordBytes * a .records ≡ length s
+became-records : (r : Receiver) (l : List ℕ) {q : Receiver} {s : List ℕ} {a : Answer} {fs : List (Frame Contact)} → Became r l q s a fs → recordBytes * a .records ≡ length s
 became-records r l (refused n) = refl
 became-records r l (settles s o) = refl
 became-records r l (touches m t o e) =
@@ -112,7 +113,7 @@ module _ (r : Receiver) (h : length (r .states) ≡ contacts) (x : Sent) where
 
 -- ---- all contacts are kept
 
-run-long : (rules : Rules) (m : Machine) (fs : List Frame) → length (m .table .states) ≡ contacts → length (runMachine rules m fs .table .states) ≡ contacts
+run-long : (rules : Rules) (m : Machine) (fs : List (Frame Contact)) → length (m .table .states) ≡ contacts → length (runMachine rules m fs .table .states) ≡ contacts
 unfolding runMachine stepMachine
 run-long rules m [] h = h
 run-long rules m (f ∷ fs) h = run-long rules (stepMachine rules m f) fs (verdict-long rules m (f .contacts) (verdict rules m (f .contacts)) h)
@@ -125,7 +126,7 @@ dismiss-long t id h = go (eqb (stateAt t id) hovering)
     go true = simp length-set h
     go false = h
 
-became-long : (r : Receiver) (l : List ℕ) {q : Receiver} {s : List ℕ} {a : Answer} {fs : List Frame} → length (r .states) ≡ contacts → Became r l q s a fs → length (q .states) ≡ contacts
+became-long : (r : Receiver) (l : List ℕ) {q : Receiver} {s : List ℕ} {a : Answer} {fs : List (Frame Contact)} → length (r .states) ≡ contacts → Became r l q s a fs → length (q .states) ≡ contacts
 became-long r l h (refused n) = h
 became-long r l h (settles s o) = h
 became-long r l h (touches m t o e) =

@@ -17,7 +17,9 @@ use Rattle.house.specs.WellFormed.{has}
 use Rattle.house.specs.Fits.{noSides}
 use Rattle.messages.specs.Header.{headed, clientReady, touch, headerBytes, mostBytes, eventOf, lengthOf}
 use Rattle.messages.specs.Bodies.{ready, readyFlags, version}
-use Rattle.touch.specs.Touch.{Frame, optionalOf, headOf, touchHeadOf, present, point, flags, sides, orientation, pressure, optional, contact, contactCount, offset, frameHead, frame, frameCount, touchHead, body}
+use Rattle.house.specs.declared.Contact.{Contact}
+use Rattle.framing.specs.Frame.{Frame, headOf}
+use Rattle.touch.specs.Touch.{optionalOf, touchHeadOf, present, point, flags, sides, orientation, pressure, optional, contact, contactCount, offset, frameHead, frame, frameCount, touchHead, body}
 use Rattle.touch.specs.Touch as format
 use Rattle.receiver.specs.declared.Receiver.{Receiver}
 use Rattle.receiver.specs.declared.Answer.{Answer}
@@ -256,7 +258,7 @@ pub refusal-changes-nothing : (r : Receiver) (message before : List ℕ) (q : Re
 refusal-changes-nothing r message before q a after h u =
     rw (h .kept, h .answered, h .output) (refused-by r before (effect r message) (effect-tame r message) (λ z. u (ap (λ (b : Answer). b .refusal) (h .answered) ∙ z)))
 
-became-none : (r : Receiver) (l : List ℕ) {q : Receiver} {s : List ℕ} {a : Answer} {fs : List Frame} → Became r l q s a fs → (a .refusal ≡ none → ⊥) → (q ≡ r) × (s ≡ [])
+became-none : (r : Receiver) (l : List ℕ) {q : Receiver} {s : List ℕ} {a : Answer} {fs : List (Frame Contact)} → Became r l q s a fs → (a .refusal ≡ none → ⊥) → (q ≡ r) × (s ≡ [])
 became-none r l (Became.refused n) u = (refl, refl)
 became-none r l (settles s o) u = absurd (u refl)
 became-none r l (touches m t o e) u = absurd (u refl)

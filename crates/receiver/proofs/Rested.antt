@@ -15,7 +15,9 @@ use Rattle.digits.specs.Digits.{Bytes}
 use Rattle.digits.proofs.Laws.{bytes-drop}
 use Rattle.fields.specs.Integers.{strict}
 use Rattle.messages.specs.Header.{headerBytes}
-use Rattle.touch.specs.Touch.{Frame, Touch, body}
+use Rattle.house.specs.declared.Contact.{Contact}
+use Rattle.framing.specs.Frame.{Frame}
+use Rattle.touch.specs.Touch.{Touch, body}
 use Rattle.contacts.specs.Table.{Table, resting}
 use Rattle.contacts.specs.Conforms.{Rules, conforms}
 use Rattle.contacts.specs.Machine.{Machine, injected, cancelled, verdict, machineAfter, bytesFor, stepMachine, stepBytes, runMachine, runBytes}
@@ -32,7 +34,7 @@ use Rattle.receiver.proofs.Quiet.{frameFor, frames-one, frames-append, 
 
 -- ---- an opening frame, in either mode
 
-module _ (rules : Rules) (t : Table) (f : Frame) (o : opens f ≡ true) where
+module _ (rules : Rules) (t : Table) (f : Frame Contact) (o : opens f ≡ true) where
   abbrev inMode : Bool → Machine
   inMode b = record { table = t; running = b }
 
@@ -56,15 +58,15 @@ module _ (rules : Rules) (t : Table) (f : Frame) (o : opens f ≡ true) where
 
 -- ---- the frames of a message from an opening one on, with no contact active before it
 
-rested-frames : (r : Receiver) (fs : List Frame) → framesFor (rested (r .settings)) fs ≡ framesFor r fs
+rested-frames : (r : Receiver) (fs : List (Frame Contact)) → framesFor (rested (r .settings)) fs ≡ framesFor r fs
 unfolding rested framesFor
 rested-frames r fs = refl
 
-begun-after : (r : Receiver) (fs : List Frame) (f : Frame) (gs : List Frame) → begunAfter r (fs ++ (f ∷ gs)) ≡ 1
+begun-after : (r : Receiver) (fs : List (Frame Contact)) (f : Frame Contact) (gs : List (Frame Contact)) → begunAfter r (fs ++ (f ∷ gs)) ≡ 1
 begun-after r [] f gs = refl
 begun-after r (g ∷ fs) f gs = refl
 
-module _ (r : Receiver) (fs : List Frame) (f : Frame) (gs : List Frame) (o : opens f ≡ true) (z : machineAt r fs .table ≡ resting) where
+module _ (r : Receiver) (fs : List (Frame Contact)) (f : Frame Contact) (gs : List (Frame Contact)) (o : opens f ≡ true) (z : machineAt r fs .table ≡ resting) where
   abbrev running : Machine
   running = record { table = resting; running = true }
 
@@ -213,7 +215,7 @@ time-same : (r : Receiver) (m n : Touch) → m .time ≡ n .time → touched r m
 unfolding touched rested
 time-same r m n e = ap (timeFor r) e
 
-module _ (r : Receiver) (k : Kept r) (x y : Sent) (b : Bytes (x .message)) (fs : List Frame) (f : Frame) (gs : List Frame) (c : Cut r x y fs f gs) (o : opens f ≡ true)
+module _ (r : Receiver) (k : Kept r) (x y : Sent) (b : Bytes (x .message)) (fs : List (Frame Contact)) (f : Frame Contact) (gs : List (Frame Contact)) (c : Cut r x y fs f gs) (o : opens f ≡ true)
     (idle : NoneActive (machineAt r fs .table)) where
   abbrev whole : Touch
   whole = record { time = c .time; frames = fs ++ (f ∷ gs) }

@@ -17,7 +17,8 @@ use Rattle.house.specs.Twos.{Holds}
 use Rattle.house.specs.Fits.{ContactFits}
 use Rattle.house.specs.declared.Point.{Point}
 use Rattle.house.specs.declared.Contact.{Contact}
-use Rattle.touch.specs.Touch.{Frame, frameBytes}
+use Rattle.framing.specs.Frame.{Frame, frameBytes}
+use Rattle.touch.specs.Touch.{touchRecord}
 use Rattle.contacts.specs.Table.{Table, contacts, stateAt, placeAt, withContact, origin, resting, countActive}
 use Rattle.contacts.specs.Conforms.{Rules, every, distinct, nextOf, legal, stays, placeIn, moved, after, few, conforms}
 use Rattle.contacts.specs.Machine.{Machine, opening, Verdict, injected, ignored, cancelled, verdict, machineAfter, bytesFor, cancels as cancelsOf, stepMachine, stepBytes, runMachine, dismissTable}
@@ -164,12 +165,12 @@ module _ (most : ℕ) where
 
 -- ---- what becomes of a frame: the machine and the bytes
 
-pub data Judged (rules : Rules) (m : Machine) (f : Frame) : Machine → List ℕ → Type 0 where
-  injects : conforms rules (m .table) (f .contacts) ≡ true → Judged rules m f (record { table = after rules (m .table) (f .contacts); running = true }) (frameBytes f)
+pub data Judged (rules : Rules) (m : Machine) (f : Frame Contact) : Machine → List ℕ → Type 0 where
+  injects : conforms rules (m .table) (f .contacts) ≡ true → Judged rules m f (record { table = after rules (m .table) (f .contacts); running = true }) (frameBytes touchRecord f)
   ignores : m .running ≡ false → opening (f .contacts) ≡ false → Judged rules m f m []
   cancels : Judged rules m f (record { table = resting; running = false }) (cancelsOf (m .table))
 
-pub judged : (rules : Rules) (m : Machine) (f : Frame) → Judged rules m f (stepMachine rules m f) (stepBytes rules m f)
+pub judged : (rules : Rules) (m : Machine) (f : Frame Contact) → Judged rules m f (stepMachine rules m f) (stepBytes rules m f)
 unfolding stepMachine stepBytes verdict
 judged rules m f = go (m .running) refl (opening (f .contacts)) refl (conforms rules (m .table) (f .contacts)) refl
   where
@@ -191,7 +192,7 @@ pub record Steady (most : ℕ) (m : Machine) : Type 0 where
   pub ignoring : m .running ≡ false → m .table ≡ resting
 
 module _ (most : ℕ) where
-  pub step-steady : (m : Machine) (f : Frame) → FrameFits f → Steady most m → Steady most (stepMachine (ruled most) m f)
+  pub step-steady : (m : Machine) (f : Frame Contact) → FrameFits f → Steady most m → Steady most (stepMachine (ruled most) m f)
   step-steady m f hf h = go (judged (ruled most) m f)
     where
       go : {n : Machine} {s : List ℕ} → Judged (ruled most) m f n s → Steady most n
@@ -205,7 +206,7 @@ module _ (most : ℕ) where
       go (ignores e o) = h
       go cancels = record { table = resting-sound; few = rw resting-count (omega arith); ignoring = λ e. refl }
 
-  pub run-steady : (m : Machine) (fs : List Frame) → All FrameFits fs → Steady most m → Steady most (runMachine (ruled most) m fs)
+  pub run-steady : (m : Machine) (fs : List (Frame Contact)) → All FrameFits fs → Steady most m → Steady most (runMachine (ruled most) m fs)
   unfolding runMachine
   run-steady m [] hf h = h
   run-steady m (f ∷ fs) hf h = run-steady (stepMachine (ruled most) m f) fs (hf .1) (step-steady m f (hf .0) h)

@@ -15,7 +15,9 @@ use Rattle.formats.specs.Format.{Got, got, bad, readSeries}
 use Rattle.formats.proofs.Laws.{never}
 use Rattle.formats.proofs.Steps.{tail}
 use Rattle.fields.specs.Integers.{strict}
-use Rattle.touch.specs.Touch.{Frame, Touch, touchHeadOf, body}
+use Rattle.house.specs.declared.Contact.{Contact}
+use Rattle.framing.specs.Frame.{Frame}
+use Rattle.touch.specs.Touch.{Touch, touchHeadOf, body}
 use Rattle.touch.specs.Answer.{summary, checkedGot, checkedRefusal, Checks}
 use Rattle.touch.specs.declared.TouchHead.{TouchHead}
 use Rattle.touch.specs.declared.CheckedBody.{CheckedBody}
@@ -36,18 +38,18 @@ use Rattle.receiver.proofs.Answering.{gives-refused, gives-none, gives-
 
 -- ---- the frames as a run takes them, and as the receiver's definition does
 
-pub frames-timed : (r : Receiver) (fs : List Frame) → timedFrames (untimed r) fs ≡ framesFor r fs
+pub frames-timed : (r : Receiver) (fs : List (Frame Contact)) → timedFrames (untimed r) fs ≡ framesFor r fs
 unfolding timedFrames framesFor
 frames-timed r fs = refl
 
-frames-same : (r : Receiver) (un : Bool) → un ≡ untimed r → (fs : List Frame) → timedFrames un fs ≡ framesFor r fs
+frames-same : (r : Receiver) (un : Bool) → un ≡ untimed r → (fs : List (Frame Contact)) → timedFrames un fs ≡ framesFor r fs
 frames-same r un e fs = ap (λ (b : Bool). timedFrames b fs) e ∙ frames-timed r fs
 
 bytes-of : (r : Receiver) (m : Touch) → touched r m .bytes ≡ runBytes (rulesOf r) (machineOf r) (framesFor r (m .frames))
 unfolding touched
 bytes-of r m = refl
 
-begun-is : (r : Receiver) (fs : List Frame) → begunBy (r .begun) (length fs) ≡ begunAfter r fs
+begun-is : (r : Receiver) (fs : List (Frame Contact)) → begunBy (r .begun) (length fs) ≡ begunAfter r fs
 begun-is r [] = refl
 begun-is r (f ∷ fs) = rw (ne-eqb (length (f ∷ fs)) 0 (λ e. omega arith))
 
@@ -80,7 +82,7 @@ module _ (r : Receiver) (l : List ℕ) (un : Bool) (eu : un ≡ untimed r) (acti
   tallies n x =
       record {
         small = x .small;
-        count = λ fs rest e. x .ran fs rest e a .records ∙ ap (λ (gs : List Frame). length (runBytes (rulesOf r) (machineOf r) gs)) (frames-same r un eu fs);
+        count = λ fs rest e. x .ran fs rest e a .records ∙ ap (λ (gs : List (Frame Contact)). length (runBytes (rulesOf r) (machineOf r) gs)) (frames-same r un eu fs);
         kept = λ fs rest e. x .ran fs rest e a .output .kept refl;
       }
 

@@ -20,7 +20,8 @@ use Rattle.house.specs.Fields.{recordBytes}
 use Rattle.house.specs.WellFormed.{has}
 use Rattle.house.specs.Fits.{noSides}
 use Rattle.house.specs.declared.Contact.{Contact}
-use Rattle.touch.specs.Touch.{Frame, Touch, optionalOf, present, point, flags, sides, orientation, pressure, optional, contact, offset, frameHead, frame, frameCount, touchHead, touch, body}
+use Rattle.framing.specs.Frame.{Frame, withoutOffset}
+use Rattle.touch.specs.Touch.{Touch, optionalOf, present, point, flags, sides, orientation, pressure, optional, contact, offset, frameHead, frame, frameCount, touchHead, touch, body}
 use Rattle.touch.specs.declared.TouchHead.{TouchHead}
 use Rattle.touch.proofs.Passes.{contactBy, frameBy, frame-got, body-got}
 use Rattle.frame_records.proofs.Laws.{length-frame}
@@ -29,7 +30,6 @@ use Rattle.contacts.specs.Conforms.{Rules, nextOf, moved, after}
 use Rattle.contacts.specs.Machine.{Machine, Verdict, injected, ignored, cancelled, verdict, machineAfter, bytesFor, stepMachine, stepBytes, runBytes}
 use Rattle.contacts.proofs.Table.{one-le, count-le, resting-whole, resting-count}
 use Rattle.contacts.proofs.Machine.{cancels-length}
-use Rattle.runs.specs.Runs.{withoutOffset}
 use Rattle.runs.proofs.Stepping.{after-long}
 use Rattle.receiver.specs.declared.Receiver.{Receiver}
 use Rattle.receiver.specs.Receive.{rulesOf, machineOf, untimed, judged, framesFor, touched}
@@ -163,7 +163,7 @@ module _ (i : Integers) (h : Least i) where
 
 -- ---- the weight of frames: one for each, and two for each contact
 
-unfoldable pub weight : List Frame → ℕ
+unfoldable pub weight : List (Frame Contact) → ℕ
 weight [] = 0
 weight (f ∷ fs) = 1 + 2 * length (f .contacts) + weight fs
 
@@ -179,7 +179,7 @@ contacts-take (suc n) l cs t h =
     let b = contacts-take n (m .after) (m .rest) t (m .others) in
     omega (arith, a, b, ap length (m .all))
 
-frames-take : (b : Bool) (n : ℕ) (l : List ℕ) (fs : List Frame) (t : List ℕ) → readSeries frameBy b n l ≡ got fs t → 2 * weight fs + length t ≤ length l
+frames-take : (b : Bool) (n : ℕ) (l : List ℕ) (fs : List (Frame Contact)) (t : List ℕ) → readSeries frameBy b n l ≡ got fs t → 2 * weight fs + length t ≤ length l
 unfolding readSeries weight
 frames-take b zero l fs t h =
     let e : l ≡ t = cc in
@@ -204,7 +204,7 @@ body-weight judged l m t h = go (touchHead strict .read l) refl
         let b = body-got judged l m t g u h w in
         omega (arith, takes-touch-head strict least-strict .least l g u w, frames-take judged (g .frames) u (m .frames) [] (b .frames))
 
-pub weight-timed : (fs : List Frame) → weight (map withoutOffset fs) ≡ weight fs
+pub weight-timed : (fs : List (Frame Contact)) → weight (map withoutOffset fs) ≡ weight fs
 unfolding weight
 weight-timed [] = refl
 weight-timed (f ∷ fs) = ap (λ (n : ℕ). 1 + 2 * length (f .contacts) + n) (weight-timed fs)
@@ -224,7 +224,7 @@ module _ (rules : Rules) where
   after-count t [] = omega arith
   after-count t (c ∷ cs) = omega (arith, after-count (moved rules t c) cs, count-set (t .states) (c .id) (nextOf rules t c))
 
-  verdict-weight : (m : Machine) (f : Frame) (v : Verdict) → length (m .table .states) ≡ contacts
+  verdict-weight : (m : Machine) (f : Frame Contact) (v : Verdict) → length (m .table .states) ≡ contacts
       → length (bytesFor v m f) + 21 * countActive (machineAfter v rules m (f .contacts) .table .states) ≤ 21 * (1 + 2 * length (f .contacts) + countActive (m .table .states))
   verdict-weight m f injected h = omega (arith, length-frame f, after-count (m .table) (f .contacts))
   verdict-weight m f ignored h = omega arith
@@ -235,7 +235,7 @@ module _ (rules : Rules) where
   verdict-long m cs ignored h = h
   verdict-long m cs cancelled h = resting-whole .states
 
-  pub run-weight : (m : Machine) (fs : List Frame) → length (m .table .states) ≡ contacts → length (runBytes rules m fs) ≤ 21 * (weight fs + countActive (m .table .states))
+  pub run-weight : (m : Machine) (fs : List (Frame Contact)) → length (m .table .states) ≡ contacts → length (runBytes rules m fs) ≤ 21 * (weight fs + countActive (m .table .states))
   unfolding runBytes weight stepMachine stepBytes
   run-weight m [] h = omega arith
   run-weight m (f ∷ fs) h =
@@ -246,7 +246,7 @@ module _ (rules : Rules) where
 
 -- ---- a touch message: two bytes of its body give at most one record, beside a cancel for each contact
 
-weight-for : (r : Receiver) (fs : List Frame) → weight (framesFor r fs) ≡ weight fs
+weight-for : (r : Receiver) (fs : List (Frame Contact)) → weight (framesFor r fs) ≡ weight fs
 unfolding framesFor
 weight-for r fs = go (untimed r)
   where

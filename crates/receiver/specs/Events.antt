@@ -12,7 +12,9 @@ use Rattle.formats.specs.Format.{Got, got, andThen, whole, byte, readSeries}
 use Rattle.fields.specs.Integers.{strict}
 use Rattle.house.specs.Fields.{recordBytes}
 use Rattle.messages.specs.Bodies.{ready}
-use Rattle.touch.specs.Touch.{Frame, Touch, touchHeadOf, frame, body}
+use Rattle.house.specs.declared.Contact.{Contact}
+use Rattle.framing.specs.Frame.{Frame}
+use Rattle.touch.specs.Touch.{Touch, touchHeadOf, frame, body}
 use Rattle.touch.specs.declared.TouchHead.{TouchHead}
 use Rattle.contacts.specs.Table.{Table, contacts}
 use Rattle.contacts.specs.Machine.{runBytes}
@@ -72,18 +74,18 @@ dismissEffect r b = andThen (whole byte trailing b) (λ id t. got (dismissedBy r
 -- the n frames at the front of l, run dry: how many records they give
 pub record Tallies (r : Receiver) (n : ℕ) (l : List ℕ) (records : ℕ) (before after : List ℕ) : Type 0 where
   pub small : records ≤ mostRecords
-  pub count : (fs : List Frame) (rest : List ℕ) → readSeries (λ b. frame strict b .read) false n l ≡ got fs rest
+  pub count : (fs : List (Frame Contact)) (rest : List ℕ) → readSeries (λ b. frame strict b .read) false n l ≡ got fs rest
       → recordBytes * records ≡ length (runBytes (rulesOf r) (machineOf r) (framesFor r fs))
-  pub kept : (fs : List Frame) (rest : List ℕ) → readSeries (λ b. frame strict b .read) false n l ≡ got fs rest → after ≡ before
+  pub kept : (fs : List (Frame Contact)) (rest : List ℕ) → readSeries (λ b. frame strict b .read) false n l ≡ got fs rest → after ≡ before
 
 -- whether there is room for their records, where the frames are all that a body of so many bytes holds
 pub record Rooms (r : Receiver) (n : ℕ) (l : List ℕ) (bodyBytes : ℕ) (roomy : Bool) (before after : List ℕ) : Type 0 where
-  pub short : roomy ≡ false → (fs : List Frame) (rest : List ℕ) → readSeries (λ b. frame strict b .read) false n l ≡ got fs rest
+  pub short : roomy ≡ false → (fs : List (Frame Contact)) (rest : List ℕ) → readSeries (λ b. frame strict b .read) false n l ≡ got fs rest
       → length before < length (runBytes (rulesOf r) (machineOf r) (framesFor r fs))
-  pub enough : roomy ≡ true → (fs : List Frame) (rest : List ℕ) → readSeries (λ b. frame strict b .read) false n l ≡ got fs rest
+  pub enough : roomy ≡ true → (fs : List (Frame Contact)) (rest : List ℕ) → readSeries (λ b. frame strict b .read) false n l ≡ got fs rest
       → length (runBytes (rulesOf r) (machineOf r) (framesFor r fs)) ≤ recordBytes * (bodyBytes / 2 + contacts)
       → length (runBytes (rulesOf r) (machineOf r) (framesFor r fs)) ≤ length before
-  pub kept : (fs : List Frame) (rest : List ℕ) → readSeries (λ b. frame strict b .read) false n l ≡ got fs rest → after ≡ before
+  pub kept : (fs : List (Frame Contact)) (rest : List ℕ) → readSeries (λ b. frame strict b .read) false n l ≡ got fs rest → after ≡ before
 
 -- an effect, carried out
 pub record Carried (e : Effect) (before : List ℕ) (q : Received) (after : List ℕ) : Type 0 where

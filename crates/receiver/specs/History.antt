@@ -20,7 +20,8 @@ use Rattle.house.specs.declared.Record.{Record}
 use Rattle.house.specs.declared.Record.the-variants as Record
 use Rattle.messages.specs.Header.{headed, touch, writeMessage}
 use Rattle.messages.specs.declared.Ready.{Ready}
-use Rattle.touch.specs.Touch.{Frame, Touch, body}
+use Rattle.framing.specs.Frame.{Frame}
+use Rattle.touch.specs.Touch.{Touch, body}
 use Rattle.touch.specs.Touch as format
 use Rattle.contacts.specs.Table.{Table, resting, stateAt}
 use Rattle.contacts.specs.Conforms.{every, lifts, samePlace, placeIn}
@@ -100,18 +101,18 @@ tableOf r = machineOf r .table
 unfoldable pub touchIn : Receiver → List ℕ → Got Touch
 touchIn r l = andThen (headed (takes r) l) (λ e b. cond (eqb e touch) (body strict (judged r) b) (bad none))
 
-abbrev pub framesOf : Got Touch → List Frame
+abbrev pub framesOf : Got Touch → List (Frame Contact)
 framesOf (got m t) = m .frames
 framesOf (bad n) = []
 
-unfoldable pub framesTaken : Receiver → Sent → List Frame
+unfoldable pub framesTaken : Receiver → Sent → List (Frame Contact)
 framesTaken r x = cond (eqb (answerTo r x .refusal) none) (framesOf (touchIn r (x .message))) []
 
 -- "The meaning of "opening" is the same in both modes."
-abbrev pub opens : Frame → Bool
+abbrev pub opens : Frame Contact → Bool
 opens f = opening (f .contacts)
 
-unfoldable pub unopened : List Frame → Bool
+unfoldable pub unopened : List (Frame Contact) → Bool
 unopened fs = every (λ f. not (opens f)) fs
 
 -- no opening frame is accepted
@@ -124,10 +125,10 @@ unfoldable pub rested : Ready → Receiver
 rested s = withTable (record { ready = 1; begun = 1; ignoring = 0; settings = s; states = []; xs = []; ys = [] }) resting
 
 -- the contacts and the mode after the first frames of a message, and what those write
-abbrev pub machineAt : Receiver → List Frame → Machine
+abbrev pub machineAt : Receiver → List (Frame Contact) → Machine
 machineAt r fs = runMachine (rulesOf r) (machineOf r) (framesFor r fs)
 
-abbrev pub bytesAt : Receiver → List Frame → List ℕ
+abbrev pub bytesAt : Receiver → List (Frame Contact) → List ℕ
 bytesAt r fs = runBytes (rulesOf r) (machineOf r) (framesFor r fs)
 
 -- the bytes of a touch message
@@ -136,14 +137,14 @@ messageOf m = writeMessage touch (format.touch strict false) m
 
 -- "Where demand 3's opening frame is inside a message, the rested receiver gets a message of the same encodeTime that begins with that
 -- frame": x has the frame f after fs and before gs, and y begins with it
-pub record Cut (r : Receiver) (x y : Sent) (fs : List Frame) (f : Frame) (gs : List Frame) : Type 0 where
+pub record Cut (r : Receiver) (x y : Sent) (fs : List (Frame Contact)) (f : Frame Contact) (gs : List (Frame Contact)) : Type 0 where
   pub time : Milliseconds
   pub whole : touchIn r (x .message) ≡ got (record { time = time; frames = fs ++ (f ∷ gs) }) []
   pub part : touchIn (rested (r .settings)) (y .message) ≡ got (record { time = time; frames = f ∷ gs }) []
 
 -- "records are compared from that frame on": the receiver r given x and `more` is, but for the frames before f, the rested one given y and
 -- `others`
-pub record AsRested (r : Receiver) (x y : Sent) (fs : List Frame) (more others : List Sent) : Type 0 where
+pub record AsRested (r : Receiver) (x y : Sent) (fs : List (Frame Contact)) (more others : List Sent) : Type 0 where
   pub receiver : next r x ≡ next (rested (r .settings)) y
   pub bytes : wrote r x ≡ bytesAt r fs ++ wrote (rested (r .settings)) y
   pub time : answerTo r x .time ≡ answerTo (rested (r .settings)) y .time
@@ -151,7 +152,7 @@ pub record AsRested (r : Receiver) (x y : Sent) (fs : List Frame) (more others :
   pub written : written r (x ∷ more) ≡ bytesAt r fs ++ written (rested (r .settings)) (y ∷ others)
 
 -- the frame f is cancelled, after the frames fs of its message
-abbrev pub CancelledAfter : Receiver → List Frame → Frame → Type 0
+abbrev pub CancelledAfter : Receiver → List (Frame Contact) → Frame Contact → Type 0
 CancelledAfter r fs f = verdict (rulesOf r) (machineAt r fs) (f .contacts) ≡ cancelled
 
 -- no contact is active

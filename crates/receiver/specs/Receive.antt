@@ -15,12 +15,13 @@ use Rattle.house.specs.Fields.{recordBytes}
 use Rattle.messages.specs.Header.{headed, clientReady, touch, dismiss}
 use Rattle.messages.specs.Bodies.{ready}
 use Rattle.messages.specs.declared.Ready.{Ready}
-use Rattle.touch.specs.Touch.{Frame, Touch, body}
+use Rattle.house.specs.declared.Contact.{Contact}
+use Rattle.framing.specs.Frame.{Frame, withoutOffset}
+use Rattle.touch.specs.Touch.{Touch, body}
 use Rattle.contacts.specs.Table.{Table, resting}
 use Rattle.contacts.specs.Conforms.{Rules}
 use Rattle.contacts.specs.Machine.{Machine, runMachine, runBytes, runCounts, dismissTable, dismissBytes, Counts}
 use Rattle.contacts.specs.Machine as machine
-use Rattle.runs.specs.Runs.{withoutOffset}
 use Rattle.receiver.specs.declared.Receiver.{Receiver}
 use Rattle.receiver.specs.declared.Answer.{Answer}
 
@@ -73,20 +74,20 @@ untimed r = eqb (r .settings .flags / 2 % 2) 1
 abbrev pub judged : Receiver → Bool
 judged r = cond (untimed r) false (off (r .begun))
 
-unfoldable pub framesFor : Receiver → List Frame → List Frame
+unfoldable pub framesFor : Receiver → List (Frame Contact) → List (Frame Contact)
 framesFor r fs = cond (untimed r) (map withoutOffset fs) fs
 
 abbrev pub timeFor : Receiver → Milliseconds → Milliseconds
 timeFor r t = cond (untimed r) (record { 0 = 0 }) t
 
 -- a touch message with a frame sets the first-frame mark
-abbrev pub begunAfter : Receiver → List Frame → ℕ
+abbrev pub begunAfter : Receiver → List (Frame Contact) → ℕ
 begunAfter r [] = r .begun
 begunAfter r (f ∷ fs) = 1
 
 unfoldable pub touched : Receiver → Touch → Effect
 touched r m =
-    let fs : List Frame = framesFor r (m .frames) in
+    let fs : List (Frame Contact) = framesFor r (m .frames) in
     let a : Machine = runMachine (rulesOf r) (machineOf r) fs in
     record {
       receiver = record {

@@ -14,7 +14,7 @@ use Rattle.formats.specs.Format.{got, readSeries}
 use Rattle.formats.proofs.Steps.{tail, series-end}
 use Rattle.house.specs.declared.Head.{Head}
 use Rattle.house.specs.declared.Contact.{Contact}
-use Rattle.touch.specs.Touch.{Frame, headOf}
+use Rattle.framing.specs.Frame.{Frame, headOf, withoutOffset}
 use Rattle.touch.proofs.Passes.{frameBy}
 use Rattle.frame_records.specs.declared.FoundFrame.{FoundFrame}
 use Rattle.frame_records.specs.declared.FoundHead.{FoundHead}
@@ -29,11 +29,11 @@ use Rattle.moves.specs.Moves.{Ends}
 use Rattle.moves.proofs.Moving.{ends-read}
 use Rattle.runs.specs.declared.Run.{Run}
 use Rattle.runs.specs.declared.Stepped.{Stepped}
-use Rattle.runs.specs.Runs.{withoutOffset, timedHead, timedFrames, machineOf, countsOf, started, Turned, Steps, Passes, Ran}
+use Rattle.runs.specs.Runs.{timedHead, timedFrames, machineOf, countsOf, started, Turned, Steps, Passes, Ran}
 
 -- ---- frames as they are written, one by one
 
-abbrev timedFrame : Bool → Frame → Frame
+abbrev timedFrame : Bool → Frame Contact → Frame Contact
 timedFrame untimed f = cond untimed (withoutOffset f) f
 
 timed-none : (untimed : Bool) → timedFrames untimed [] ≡ []
@@ -41,16 +41,16 @@ unfolding timedFrames
 timed-none true = refl
 timed-none false = refl
 
-timed-cons : (untimed : Bool) (f : Frame) (fs : List Frame) → timedFrames untimed (f ∷ fs) ≡ timedFrame untimed f ∷ timedFrames untimed fs
+timed-cons : (untimed : Bool) (f : Frame Contact) (fs : List (Frame Contact)) → timedFrames untimed (f ∷ fs) ≡ timedFrame untimed f ∷ timedFrames untimed fs
 unfolding timedFrames
 timed-cons true f fs = refl
 timed-cons false f fs = refl
 
-timed-head : (untimed : Bool) (f : Frame) → timedHead untimed (headOf f) ≡ headOf (timedFrame untimed f)
+timed-head : (untimed : Bool) (f : Frame Contact) → timedHead untimed (headOf f) ≡ headOf (timedFrame untimed f)
 timed-head true f = refl
 timed-head false f = refl
 
-timed-contacts : (untimed : Bool) (f : Frame) → timedFrame untimed f .contacts ≡ f .contacts
+timed-contacts : (untimed : Bool) (f : Frame Contact) → timedFrame untimed f .contacts ≡ f .contacts
 timed-contacts true f = refl
 timed-contacts false f = refl
 
@@ -81,7 +81,7 @@ plus-none c =
 
 -- ---- one more frame
 
-module _ (rules : Rules) (m : Machine) (f : Frame) (fs : List Frame) where
+module _ (rules : Rules) (m : Machine) (f : Frame Contact) (fs : List (Frame Contact)) where
   machine-cons : runMachine rules m (f ∷ fs) ≡ runMachine rules (stepMachine rules m f) fs
   unfolding runMachine
   machine-cons = refl
@@ -109,9 +109,9 @@ module _ (rules : Rules) (m : Machine) where
 
 -- ---- the run under way: of the frames fs, in whole from the machine m on, those that are left begin at `at`
 
-module _ (rules : Rules) (untimed wet : Bool) (l : List ℕ) (m : Machine) (fs : List Frame) (end out₀ : List ℕ) where
+module _ (rules : Rules) (untimed wet : Bool) (l : List ℕ) (m : Machine) (fs : List (Frame Contact)) (end out₀ : List ℕ) where
   pub record Underway (run : Run) (t : Table) (out : List ℕ) (pos at left : ℕ) : Type 0 where
-    pub ahead : List Frame
+    pub ahead : List (Frame Contact)
     pub read : readSeries frameBy false left (drop at l) ≡ got ahead end
     pub active : Counted (run .active) (t .states)
     pub machine : runMachine rules (machineOf run t) (timedFrames untimed ahead) ≡ runMachine rules m (timedFrames untimed fs)
@@ -121,7 +121,7 @@ module _ (rules : Rules) (untimed wet : Bool) (l : List ℕ) (m : Machine) (fs :
     pub written : wet ≡ true → length (runBytes rules m (timedFrames untimed fs)) ≤ length out₀
         → (pos ≡ 21 * run .records) × (laidAt out pos (runBytes rules (machineOf run t) (timedFrames untimed ahead)) ≡ laid out₀ (runBytes rules m (timedFrames untimed fs)))
 
-module _ (most : ℕ) (untimed wet : Bool) (l : List ℕ) (fs : List Frame) (end out₀ : List ℕ) where
+module _ (most : ℕ) (untimed wet : Bool) (l : List ℕ) (fs : List (Frame Contact)) (end out₀ : List ℕ) where
   -- at the start all of it is to come
   pub underway-first : (run : Run) (t : Table) (n active : ℕ) (running : Bool) → readSeries frameBy false n l ≡ got fs end → Counted active (t .states) → run ≡ started running active
       → Underway (rulesOf most) untimed wet l (record { table = t; running = running }) fs end out₀ run t out₀ 0 0 n
@@ -157,7 +157,7 @@ module _ (most : ℕ) (untimed wet : Bool) (l : List ℕ) (fs : List Frame) (end
         };
       }
     where
-      none-left : (more : List Frame) → got [] (drop at l) ≡ got more end → more ≡ []
+      none-left : (more : List (Frame Contact)) → got [] (drop at l) ≡ got more end → more ≡ []
       none-left more e = cc
 
   -- a frame's turn
@@ -182,10 +182,10 @@ module _ (most : ℕ) (untimed wet : Bool) (l : List ℕ) (fs : List Frame) (end
     next : Turn l at whole (found-by-head l at found (r .end) here past) end left (u .ahead)
     next = finding.turn l at whole (found-by-head l at found (r .end) here past) end left (u .ahead) h (u .read)
 
-    abbrev now : Frame
+    abbrev now : Frame Contact
     now = timedFrame untimed (next .frame)
 
-    abbrev later : List Frame
+    abbrev later : List (Frame Contact)
     later = timedFrames untimed (next .others)
 
     turned : Turned (rulesOf most) now wet run (r .run) t v (midOf pos (length out - pos) out) part

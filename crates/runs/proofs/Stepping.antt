@@ -14,7 +14,7 @@ use Rattle.formats.specs.Format.{got}
 use Rattle.house.specs.declared.Head.{Head}
 use Rattle.house.specs.declared.Contact.{Contact}
 use Rattle.house.proofs.WellFormed.{never}
-use Rattle.touch.specs.Touch.{Frame, headOf}
+use Rattle.framing.specs.Frame.{Frame, headOf}
 use Rattle.frame_records.proofs.Laws.{frame-is, length-frame}
 use Rattle.contacts.specs.Table.{Table, contacts, withContact}
 use Rattle.contacts.specs.Conforms.{Rules, moved, after}
@@ -67,7 +67,7 @@ module _ (head : Head) (l : List ℕ) (wet : Bool) (most : ℕ) (run : Run) (t :
   abbrev ruled : Ruling → Type 0
   ruled r = Counted (run .active) (t .states) → r ≡ ofRead (unread (run .running)) (rulingOf (rulesOf most) (machineOf run t)) (contactsOf (head .count) l)
 
-  module _ (f : Frame) (rest : List ℕ) (h : head ≡ headOf f) (e : contactsOf (head .count) l ≡ got (f .contacts) rest) (a : Counted (run .active) (t .states)) where
+  module _ (f : Frame Contact) (rest : List ℕ) (h : head ≡ headOf f) (e : contactsOf (head .count) l ≡ got (f .contacts) rest) (a : Counted (run .active) (t .states)) where
     read-as : (r : Ruling) → ruled r → r ≡ rulingOf (rulesOf most) (machineOf run t) (f .contacts)
     read-as r q = rw e at (q a)
 

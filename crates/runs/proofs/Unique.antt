@@ -7,7 +7,8 @@ use mathlib.Core.List.{List}
 use native.Mathlib.Omega.{arith}
 use lib.ListN.{length}
 use Rattle.formats.specs.Format.{got, readSeries}
-use Rattle.touch.specs.Touch.{Frame}
+use Rattle.house.specs.declared.Contact.{Contact}
+use Rattle.framing.specs.Frame.{Frame}
 use Rattle.touch.proofs.Passes.{frameBy}
 use Rattle.contacts.specs.Table.{Table, countActive}
 use Rattle.contacts.specs.Conforms.{Rules}
@@ -16,7 +17,7 @@ use Rattle.contacts.specs.Ruling.{rulesOf, Counted}
 use Rattle.runs.specs.declared.Run.{Run}
 use Rattle.runs.specs.Runs.{timedFrames, Ran, Runs}
 
-module _ (rules : Rules) (fs : List Frame) (wet running : Bool) (r r′ : Run) (t u u′ : Table) (before after after′ : List ℕ)
+module _ (rules : Rules) (fs : List (Frame Contact)) (wet running : Bool) (r r′ : Run) (t u u′ : Table) (before after after′ : List ℕ)
     (x : Ran rules fs wet running r t u before after) (y : Ran rules fs wet running r′ t u′ before after′) where
   pub record Same : Type 0 where
     pub run : r ≡ r′
@@ -49,7 +50,7 @@ module _ (rules : Rules) (fs : List Frame) (wet running : Bool) (r r′ : Run) (
         written = λ e room. x .output .written e room ∙ sym (y .output .written e room);
       }
 
-pub run-frames-unique : (n : ℕ) (l : List ℕ) (untimed wet running : Bool) (most active : ℕ) (r r′ : Run) (t u u′ : Table) (before after after′ : List ℕ) (fs : List Frame) (rest : List ℕ)
+pub run-frames-unique : (n : ℕ) (l : List ℕ) (untimed wet running : Bool) (most active : ℕ) (r r′ : Run) (t u u′ : Table) (before after after′ : List ℕ) (fs : List (Frame Contact)) (rest : List ℕ)
     (x : Runs n l untimed wet running most active r t u before after) (y : Runs n l untimed wet running most active r′ t u′ before after′)
     → (e : readSeries frameBy false n l ≡ got fs rest) (c : Counted active (t .states))
     → Same (rulesOf most) (timedFrames untimed fs) wet running r r′ t u u′ before after after′ (x .ran fs rest e c) (y .ran fs rest e c)

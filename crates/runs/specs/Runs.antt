@@ -11,7 +11,8 @@ use Rattle.house.specs.Layout.{headBytes}
 use Rattle.house.specs.Fields.{recordBytes}
 use Rattle.house.specs.declared.Head.{Head}
 use Rattle.house.specs.declared.Contact.{Contact}
-use Rattle.touch.specs.Touch.{Frame, headOf, frame, contactsBytes}
+use Rattle.framing.specs.Frame.{Frame, headOf, withoutOffset, contactsBytes}
+use Rattle.touch.specs.Touch.{frame, touchRecord}
 use Rattle.contacts.specs.Table.{Table, resting}
 use Rattle.contacts.specs.Conforms.{Rules}
 use Rattle.contacts.specs.Machine.{Machine, Counts, plus, countOf, verdict, cancels, stepMachine, stepBytes, runMachine, runBytes, runCounts}
@@ -22,13 +23,10 @@ use Rattle.runs.specs.declared.Stepped.{Stepped}
 
 -- ---- frames as they are written: with no offset where the client asked for none
 
-abbrev pub withoutOffset : Frame → Frame
-withoutOffset f = record { offset = record { 0 = 0 }; contacts = f .contacts }
-
 abbrev pub timedHead : Bool → Head → Head
 timedHead untimed h = cond untimed (record { count = h .count; offset = record { 0 = 0 } }) h
 
-unfoldable pub timedFrames : Bool → List Frame → List Frame
+unfoldable pub timedFrames : Bool → List (Frame Contact) → List (Frame Contact)
 timedFrames untimed fs = cond untimed (map withoutOffset fs) fs
 
 -- ---- what is written
@@ -39,12 +37,12 @@ pub record Lays (wet : Bool) (s before after : List ℕ) : Type 0 where
   pub written : wet ≡ true → length s ≤ length before → after ≡ laid before s
 
 abbrev pub LaysFrame : Bool → Head → List ℕ → List ℕ → List ℕ → Type 0
-LaysFrame wet head l before after = (cs : List Contact) (t : List ℕ) → contactsOf (head .count) l ≡ got cs t → Lays wet (headBytes head ++ contactsBytes cs) before after
+LaysFrame wet head l before after = (cs : List Contact) (t : List ℕ) → contactsOf (head .count) l ≡ got cs t → Lays wet (headBytes head ++ contactsBytes touchRecord cs) before after
 
 -- of n contacts, where there is room for their records: the table as they leave it, and their records
 pub record CarriesContacts (n : ℕ) (l : List ℕ) (end : ℕ) (t u : Table) (before after : List ℕ) : Type 0 where
   pub table : Applies n l end t u
-  pub output : (cs : List Contact) (rest : List ℕ) → contactsOf n l ≡ got cs rest → after ≡ laid before (contactsBytes cs)
+  pub output : (cs : List Contact) (rest : List ℕ) → contactsOf n l ≡ got cs rest → after ≡ laid before (contactsBytes touchRecord cs)
 
 pub record CarriesFrame (wet : Bool) (head : Head) (l : List ℕ) (end : ℕ) (t u : Table) (before after : List ℕ) : Type 0 where
   pub table : Applies (head .count) l end t u
@@ -92,7 +90,7 @@ pub record Cancels (wet : Bool) (run r : Run) (t u : Table) (before after : List
   pub output : Lays wet (cancels t) before after
 
 -- a frame f, after which the table is u
-pub record Turned (rules : Rules) (f : Frame) (wet : Bool) (run r : Run) (t u : Table) (before after : List ℕ) : Type 0 where
+pub record Turned (rules : Rules) (f : Frame Contact) (wet : Bool) (run r : Run) (t u : Table) (before after : List ℕ) : Type 0 where
   pub machine : machineOf r u ≡ stepMachine rules (machineOf run t) f
   pub active : Counted (r .active) (u .states)
   pub counts : countsOf r ≡ plus (countsOf run) (countOf (verdict rules (machineOf run t) (f .contacts)))
@@ -105,7 +103,7 @@ pub record Steps (head : Head) (l : List ℕ) (wet : Bool) (most : ℕ) (run : R
   pub more : run .records ≤ r .run .records
   pub small : r .run .records ≤ run .records + 65536
   pub passed : Ends (head .count) l (r .end)
-  pub turned : (f : Frame) (rest : List ℕ) → head ≡ headOf f → contactsOf (head .count) l ≡ got (f .contacts) rest → Counted (run .active) (t .states)
+  pub turned : (f : Frame Contact) (rest : List ℕ) → head ≡ headOf f → contactsOf (head .count) l ≡ got (f .contacts) rest → Counted (run .active) (t .states)
       → Turned (rulesOf most) f wet run (r .run) t u before after
 
 -- ---- the frames of a message
@@ -116,7 +114,7 @@ pub record Passes (pos records room r : ℕ) : Type 0 where
   pub behind : pos + recordBytes * records ≤ room → r ≡ pos + recordBytes * records
 
 -- the frames fs, from a mode and a table t on
-pub record Ran (rules : Rules) (fs : List Frame) (wet running : Bool) (r : Run) (t u : Table) (before after : List ℕ) : Type 0 where
+pub record Ran (rules : Rules) (fs : List (Frame Contact)) (wet running : Bool) (r : Run) (t u : Table) (before after : List ℕ) : Type 0 where
   pub machine : machineOf r u ≡ runMachine rules (record { table = t; running = running }) fs
   pub active : Counted (r .active) (u .states)
   pub counts : countsOf r ≡ runCounts rules (record { table = t; running = running }) fs
@@ -131,5 +129,5 @@ mostRecords = 16711680
 -- only the bound is said.
 pub record Runs (n : ℕ) (l : List ℕ) (untimed wet running : Bool) (most active : ℕ) (r : Run) (t u : Table) (before after : List ℕ) : Type 0 where
   pub small : r .records ≤ mostRecords
-  pub ran : (fs : List Frame) (rest : List ℕ) → readSeries (λ b. frame strict b .read) false n l ≡ got fs rest → Counted active (t .states)
+  pub ran : (fs : List (Frame Contact)) (rest : List ℕ) → readSeries (λ b. frame strict b .read) false n l ≡ got fs rest → Counted active (t .states)
       → Ran (rulesOf most) (timedFrames untimed fs) wet running r t u before after

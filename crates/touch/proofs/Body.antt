@@ -14,16 +14,17 @@ use Rattle.fields.specs.Integers.{strict}
 use Rattle.house.specs.declared.Head.{Head}
 use Rattle.house.specs.declared.Contact.{Contact}
 use Rattle.touch.specs.declared.TouchHead.{TouchHead}
-use Rattle.touch.specs.Touch.{Frame, contact, frameHead, frame, touchHead, touch, body}
+use Rattle.framing.specs.Frame.{Frame}
+use Rattle.touch.specs.Touch.{contact, frameHead, frame, touchHead, touch, body}
 use Rattle.touch.specs.Answer.{summary}
 
 pub frame-end : (judged : Bool) (l : List ℕ) (h : Head) (t : List ℕ) → frameHead strict judged .read l ≡ got h t
     → skip (frame strict judged) .read l ≡ skip (times (h .count) (contact strict)) .read t
 unfolding frame
-frame-end judged l h t e = rw e (skipped-made {A = List Contact} {B = Frame} (λ cs. record { offset = h .offset; contacts = cs }) (times (h .count) (contact strict) .read t))
+frame-end judged l h t e = rw e (skipped-made {A = List Contact} {B = Frame Contact} (λ cs. record { offset = h .offset; contacts = cs }) (times (h .count) (contact strict) .read t))
 
 -- a body of the head h whose frames are read as x
-frames-ended : (h : TouchHead) (x : Got (List Frame)) → ((fs : List Frame) (u : List ℕ) → x ≡ got fs u → length fs ≡ h .frames)
+frames-ended : (h : TouchHead) (x : Got (List (Frame Contact))) → ((fs : List (Frame Contact)) (u : List ℕ) → x ≡ got fs u → length fs ≡ h .frames)
     → summary (andThen (andThen x (λ fs u. got (record { time = h .time; frames = fs }) u)) (ended trailing)) ≡ andThen (skipped x) (λ a u. ended trailing h u)
 unfolding ended
 frames-ended h (got fs []) n = let w : length fs ≡ h .frames = n fs [] refl in λ i. got (record { time = h .time; frames = w i }) []

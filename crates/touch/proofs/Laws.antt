@@ -11,7 +11,9 @@ use Rattle.fields.specs.Integers.{Integers, strict}
 use Rattle.fields.proofs.Laws.{IntegersLaw, strict-law}
 use Rattle.house.specs.WellFormed.{has}
 use Rattle.house.specs.Fits.{noSides}
-use Rattle.touch.specs.Touch.{Frame, Touch, optionalOf, headOf, touchHeadOf, present, point, flags, sides, orientation, pressure, optional, contact, offset, frameHead, frame, frameCount, touchHead, touch}
+use Rattle.house.specs.declared.Contact.{Contact}
+use Rattle.framing.specs.Frame.{Frame, headOf}
+use Rattle.touch.specs.Touch.{Touch, optionalOf, touchHeadOf, present, point, flags, sides, orientation, pressure, optional, contact, offset, frameHead, frame, frameCount, touchHead, touch}
 use Rattle.house.specs.declared.Head.{Head}
 use Rattle.touch.specs.declared.TouchHead.{TouchHead}
 
@@ -68,7 +70,7 @@ module _ {X : Type 0} (i : Integers) (h : IntegersLaw X i) where
       field-law _ _ _ (times-law _ (h .count) contact-law) (λ cs b e. ap (λ f. f .contacts) e) λ cs.
       done-law _
     where
-      frame-finds : (g : Head) (b : Frame) → Each (λ k. contact i .Holds) false (g .count) (b .contacts) × (b ≡ record { offset = g .offset; contacts = b .contacts }) → headOf b ≡ g
+      frame-finds : (g : Head) (b : Frame Contact) → Each (λ k. contact i .Holds) false (g .count) (b .contacts) × (b ≡ record { offset = g .offset; contacts = b .contacts }) → headOf b ≡ g
       frame-finds g b e =
           let n : length (b .contacts) ≡ g .count = each-length _ false (g .count) (b .contacts) (e .0) in
           let o : b .offset ≡ g .offset = ap (λ f. f .offset) (e .1) in

@@ -8,7 +8,8 @@ use Rattle.fields.specs.Integers.{Integers, strict}
 use Rattle.fields.proofs.Order.{IntegersOrdered, strict-ordered}
 use Rattle.house.specs.WellFormed.{has}
 use Rattle.house.specs.Fits.{noSides}
-use Rattle.touch.specs.Touch.{optionalOf, headOf, touchHeadOf, present, point, flags, sides, orientation, pressure, optional, contact, contactCount, offset, frameHead, frame, frameCount, touchHead, touch}
+use Rattle.framing.specs.Frame.{headOf}
+use Rattle.touch.specs.Touch.{optionalOf, touchHeadOf, present, point, flags, sides, orientation, pressure, optional, contact, contactCount, offset, frameHead, frame, frameCount, touchHead, touch}
 
 module _ (i : Integers) (h : IntegersOrdered i) where
   pub point-ordered : Ordered (point i)

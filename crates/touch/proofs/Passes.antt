@@ -16,11 +16,12 @@ use Rattle.house.specs.declared.Head.{Head}
 use Rattle.house.specs.declared.Contact.{Contact}
 use Rattle.touch.specs.declared.TouchHead.{TouchHead}
 use Rattle.touch.specs.declared.CheckedBody.the-variants as CheckedBody
-use Rattle.touch.specs.Touch.{Frame, Touch, headOf, touchHeadOf, contact, contactCount, offset, frameHead, frame, touchHead, touch, body}
+use Rattle.framing.specs.Frame.{Frame, headOf}
+use Rattle.touch.specs.Touch.{Touch, touchHeadOf, contact, contactCount, offset, frameHead, frame, touchHead, touch, body}
 use Rattle.touch.specs.Answer.{summary, Checks}
 
 -- the readings of frames and of contacts, as series take them
-abbrev pub frameBy : Bool → List ℕ → Got Frame
+abbrev pub frameBy : Bool → List ℕ → Got (Frame Contact)
 frameBy b = frame strict b .read
 
 abbrev pub contactBy : Bool → List ℕ → Got Contact
@@ -39,7 +40,7 @@ pub body-got : (judged : Bool) (l : List ℕ) (m : Touch) (t : List ℕ) (h : To
 unfolding touch ended
 body-got judged l m t h after e w = go (readSeries frameBy judged (h .frames) after) refl (rw w at e)
   where
-    go : (x : Got (List Frame)) → readSeries frameBy judged (h .frames) after ≡ x → andThen (andThen x (λ fs u. got (record { time = h .time; frames = fs }) u)) (ended trailing) ≡ got m t → BodyRead judged m t h after
+    go : (x : Got (List (Frame Contact))) → readSeries frameBy judged (h .frames) after ≡ x → andThen (andThen x (λ fs u. got (record { time = h .time; frames = fs }) u)) (ended trailing) ≡ got m t → BodyRead judged m t h after
     go (bad x) v b = never x m t b
     go (got fs (y ∷ u)) v b = never trailing m t b
     go (got fs []) v b =
@@ -66,12 +67,12 @@ checked judged l h at c = go (body strict judged l) refl (c .same)
 -- ---- frames
 
 -- a frame that is read: its head, and its contacts behind it
-pub record FrameRead (judged : Bool) (l : List ℕ) (f : Frame) (t : List ℕ) : Type 0 where
+pub record FrameRead (judged : Bool) (l : List ℕ) (f : Frame Contact) (t : List ℕ) : Type 0 where
   pub after : List ℕ
   pub head : frameHead strict judged .read l ≡ got (headOf f) after
   pub contacts : readSeries contactBy false (length (f .contacts)) after ≡ got (f .contacts) t
 
-pub frame-got : (judged : Bool) (l : List ℕ) (f : Frame) (t : List ℕ) → frame strict judged .read l ≡ got f t → FrameRead judged l f t
+pub frame-got : (judged : Bool) (l : List ℕ) (f : Frame Contact) (t : List ℕ) → frame strict judged .read l ≡ got f t → FrameRead judged l f t
 unfolding frame
 frame-got judged l f t e = go (frameHead strict judged .read l) refl e
   where
@@ -129,7 +130,7 @@ head-freed b l h t e = go (contactCount strict .read l) e
         on (got o v) w e = rw (offset-freed b u o v w) e
 
 -- what is read where 11 is judged is read where it is not
-pub frame-freed : (b : Bool) (l : List ℕ) (f : Frame) (t : List ℕ) → frame strict b .read l ≡ got f t → frame strict false .read l ≡ got f t
+pub frame-freed : (b : Bool) (l : List ℕ) (f : Frame Contact) (t : List ℕ) → frame strict b .read l ≡ got f t → frame strict false .read l ≡ got f t
 unfolding frame
 frame-freed b l f t e = go (frameHead strict b .read l) refl e
   where
@@ -138,9 +139,9 @@ frame-freed b l f t e = go (frameHead strict b .read l) refl e
     go (bad x) w e = never x f t e
     go (got h u) w e = rw (head-freed b l h u w) e
 
-pub frames-freed : (b : Bool) (n : ℕ) (l : List ℕ) (fs : List Frame) (t : List ℕ) → readSeries frameBy b n l ≡ got fs t → readSeries frameBy false n l ≡ got fs t
+pub frames-freed : (b : Bool) (n : ℕ) (l : List ℕ) (fs : List (Frame Contact)) (t : List ℕ) → readSeries frameBy b n l ≡ got fs t → readSeries frameBy false n l ≡ got fs t
 unfolding readSeries
 frames-freed b zero l fs t e = e
 frames-freed b (suc n) l fs t e =
     let m = more-got (frame strict) b n l fs t e in
-    rw (frame-freed b l (m .head) (m .after) (m .one), m .others) (ap (λ (s : List Frame). got s t) (sym (m .all)))
+    rw (frame-freed b l (m .head) (m .after) (m .one), m .others) (ap (λ (s : List (Frame Contact)). got s t) (sym (m .all)))

@@ -23,7 +23,8 @@ use Rattle.house.specs.WellFormed.{all, has, above, placeMost, sideMost, orient
 use Rattle.house.specs.declared.Sides.{Sides}
 use Rattle.house.specs.declared.Contact.{Contact}
 use Rattle.house.proofs.WellFormed.{in-range}
-use Rattle.touch.specs.Touch.{Frame, headOf, point, sides, optional, contact, offset, frameHead, frame}
+use Rattle.framing.specs.Frame.{Frame, headOf}
+use Rattle.touch.specs.Touch.{point, sides, optional, contact, offset, frameHead, frame}
 use Rattle.touch.proofs.Laws.{contact-law, frame-law}
 
 -- ---- signed values
@@ -137,11 +138,11 @@ offset-holds : (judged : Bool) (o : ℕ) → offset strict judged .Holds o → o
 offset-holds true o h = h .0
 offset-holds false o h = h
 
-pub frame-holds : (judged : Bool) (f : Frame) → frame strict judged .Holds f → HeadFits (headOf f)
+pub frame-holds : (judged : Bool) (f : Frame Contact) → frame strict judged .Holds f → HeadFits (headOf f)
 unfolding frame frameHead
 frame-holds judged f h =
     let n = leb-true (length (f .contacts)) 63 (h .0 .0 .1) in
     record { count = omega arith; offset = offset-holds judged (f .offset .0) (h .0 .1 .0) }
 
-pub frame-fits : (judged : Bool) (l : List ℕ) (f : Frame) (t : List ℕ) → Bytes l → frame strict judged .read l ≡ got f t → HeadFits (headOf f)
+pub frame-fits : (judged : Bool) (l : List ℕ) (f : Frame Contact) (t : List ℕ) → Bytes l → frame strict judged .read l ≡ got f t → HeadFits (headOf f)
 frame-fits judged l f t hl e = frame-holds judged f (frame-law strict strict-law judged .sound l f t hl e .0)

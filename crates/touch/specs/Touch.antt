@@ -3,44 +3,37 @@
 -- top, right, bottom); if bit 2, orientation U4, 0 to 359; if bit 4, pressure U4, 0 to 65000."
 use Prim.Native.Nat.{ℕ}
 use mathlib.Core.Bool.{Bool, true, false}
-use mathlib.Core.List.{List, [], _∷_, _++_}
+use mathlib.Core.List.{List}
 use lib.Dec.{ltb, leb, eqb}
 use lib.ListN.{length}
 use Rattle.paper.specs.Refusals.{badCount, badField, badFlags, badRange, badOffset, trailing}
-use Rattle.paper.specs.declared.Milliseconds.{Milliseconds}
-use Rattle.paper.specs.declared.Microseconds.{Microseconds}
 use Rattle.states.specs.Table.{listed}
 use Rattle.formats.specs.Format.{Got, Format, done, field, such, when, series, times, byte, whole}
 use Rattle.fields.specs.Integers.{Integers}
-use Rattle.house.specs.Layout.{headBytes, contactBytes, touched}
+use Rattle.house.specs.Layout.{contactBytes, touched}
 use Rattle.house.specs.WellFormed.{has, orientationMost, pressureMost}
 use Rattle.house.specs.Fits.{noSides}
 use Rattle.house.specs.declared.Head.{Head}
 use Rattle.house.specs.declared.Point.{Point}
 use Rattle.house.specs.declared.Sides.{Sides}
 use Rattle.house.specs.declared.Contact.{Contact}
+use Rattle.framing.specs.Frame.{Frame, Body, headOf}
 use Rattle.touch.specs.declared.Optional.{Optional}
 use Rattle.touch.specs.declared.TouchHead.{TouchHead}
 use Rattle.touch.specs.Limits.{mostFrames, mostContacts}
 
--- a frame: microseconds since the frame before it, and its contacts
-pub record Frame : Type 0 where
-  pub offset : Microseconds
-  pub contacts : List Contact
+-- a touch message's body, and the record of a frame's contact
+abbrev pub Touch : Type 0
+Touch = Body Contact
 
--- a touch message's body: milliseconds, and frames
-pub record Touch : Type 0 where
-  pub time : Milliseconds
-  pub frames : List Frame
+abbrev pub touchRecord : Contact → List ℕ
+touchRecord = contactBytes touched
 
 -- the optional fields of a contact
 abbrev pub optionalOf : Contact → Optional
 optionalOf c = record { sides = c .sides; orientation = c .orientation; pressure = c .pressure }
 
--- what stands before a frame's contacts, and before a message's frames
-abbrev pub headOf : Frame → Head
-headOf f = record { count = length (f .contacts); offset = f .offset }
-
+-- what stands before a message's frames
 abbrev pub touchHeadOf : Touch → TouchHead
 touchHeadOf m = record { time = m .time; frames = length (m .frames) }
 
@@ -107,7 +100,7 @@ module _ (i : Integers) where
       field (offset judged) (λ h. h .offset .0) λ o.
       done (record { count = n; offset = record { 0 = o } })
 
-  unfoldable pub frame : Bool → Format Frame
+  unfoldable pub frame : Bool → Format (Frame Contact)
   frame judged =
       field (frameHead judged) headOf λ h.
       field (times (h .count) contact) (λ f. f .contacts) λ cs.
@@ -132,16 +125,3 @@ module _ (i : Integers) where
 
   abbrev pub body : Bool → List ℕ → Got Touch
   body judged = whole (touch judged) trailing
-
--- ---- the records of frames ("One head record, then its contacts in message order. An empty frame gives its head.")
-
-unfoldable pub contactsBytes : List Contact → List ℕ
-contactsBytes [] = []
-contactsBytes (c ∷ cs) = contactBytes touched c ++ contactsBytes cs
-
-unfoldable pub frameBytes : Frame → List ℕ
-frameBytes f = headBytes (headOf f) ++ contactsBytes (f .contacts)
-
-unfoldable pub framesBytes : List Frame → List ℕ
-framesBytes [] = []
-framesBytes (f ∷ fs) = frameBytes f ++ framesBytes fs

@@ -18,7 +18,8 @@ use Rattle.integers.specs.Integer.{limit}
 use Rattle.messages.specs.Header.{header, headerBytes, mostBytes}
 use Rattle.messages.specs.Header as event
 use Rattle.touch.specs.Limits.{mostFrames}
-use Rattle.touch.specs.Touch.{Frame}
+use Rattle.house.specs.declared.Contact.{Contact}
+use Rattle.framing.specs.Frame.{Frame}
 use Rattle.frame_records.specs.Records.{framesIn}
 use Rattle.writing.specs.TouchDraft.{messageOf, framesDraft, touchDraft}
 use Rattle.writing.specs.Filling.{Fills}
@@ -37,13 +38,13 @@ module _ (time : Milliseconds) (l : List ℕ) (early : time .0 < limit 2 0) wher
   unfolding touchDraft
   draft-bad e h = go (framesIn l) refl h
     where
-      go : (x : Got (List Frame)) → framesIn l ≡ x → bad e ≡ counted x → touchDraft time l ≡ refuse e
+      go : (x : Got (List (Frame Contact))) → framesIn l ≡ x → bad e ≡ counted x → touchDraft time l ≡ refuse e
       go (bad y) w h = let z : y ≡ e = cc in rw (lt-ltb _ _ early, w, z)
       go (got fs t) w h = never e (length fs) [] h
 
   -- frames, as many as were counted
   pub record Frames (n : ℕ) : Type 0 where
-    pub frames : List Frame
+    pub frames : List (Frame Contact)
     pub after : List ℕ
     pub read : framesIn l ≡ got frames after
     pub count : length frames ≡ n
@@ -51,7 +52,7 @@ module _ (time : Milliseconds) (l : List ℕ) (early : time .0 < limit 2 0) wher
   pub frames-of : (n : ℕ) → got n [] ≡ counted (framesIn l) → Frames n
   frames-of n h = go (framesIn l) refl h
     where
-      go : (x : Got (List Frame)) → framesIn l ≡ x → got n [] ≡ counted x → Frames n
+      go : (x : Got (List (Frame Contact))) → framesIn l ≡ x → got n [] ≡ counted x → Frames n
       go (bad y) w h = never y n [] (sym h)
       go (got fs t) w h = record { frames = fs; after = t; read = w; count = cc }
 

@@ -18,7 +18,8 @@ use Rattle.house.specs.WellFormed.{has, orientationMost, pressureMost}
 use Rattle.house.specs.declared.Head.{Head}
 use Rattle.house.specs.declared.Contact.{Contact}
 use Rattle.house.proofs.WellFormed.{in-range}
-use Rattle.touch.specs.Touch.{Frame, headOf, point, sides, orientation, pressure, optional, contact, frameHead, frame}
+use Rattle.framing.specs.Frame.{Frame, headOf}
+use Rattle.touch.specs.Touch.{point, sides, orientation, pressure, optional, contact, frameHead, frame}
 use Rattle.touch.proofs.Ranges.{contact-fits, contact-well, frame-holds}
 use Rattle.frame_records.specs.Records.{contactRecord, frameRecords}
 
@@ -35,11 +36,11 @@ each-held P Q h (suc n) (a ∷ s) e = (h a (e .0), each-held P Q h n s (e .1))
 pub contact-packs : (c : Contact) → contact strict .Holds c → contactRecord .Holds c
 contact-packs c h = (contact-fits c h, contact-well c h)
 
-pub frame-packs : (f : Frame) → frame strict false .Holds f → frameRecords .Holds f
+pub frame-packs : (f : Frame Contact) → frame strict false .Holds f → frameRecords .Holds f
 unfolding frame frameRecords
 frame-packs f h = (frame-holds false f h, (each-held (λ b. contact strict .Holds) (λ b. contactRecord .Holds) contact-packs _ (f .contacts) (h .1 .0), refl))
 
-pub frames-pack : (n : ℕ) (fs : List Frame) → Each (λ b. frame strict b .Holds) false n fs → Each (λ b. frameRecords .Holds) false n fs
+pub frames-pack : (n : ℕ) (fs : List (Frame Contact)) → Each (λ b. frame strict b .Holds) false n fs → Each (λ b. frameRecords .Holds) false n fs
 frames-pack = each-held (λ b. frame strict b .Holds) (λ b. frameRecords .Holds) frame-packs
 
 -- ---- and what records hold, a message holds
@@ -88,10 +89,10 @@ head-writes h f =
     let n = f .count in
     ((omega (arith, n), le-leb (h .count) 63 (omega (arith, n))), (f .offset, refl))
 
-pub frame-writes : (f : Frame) → frameRecords .Holds f → frame strict false .Holds f
+pub frame-writes : (f : Frame Contact) → frameRecords .Holds f → frame strict false .Holds f
 unfolding frame frameRecords
 frame-writes f h =
     (head-writes (headOf f) (h .0), (each-held (λ b. contactRecord .Holds) (λ b. contact strict .Holds) contact-writes _ (f .contacts) (h .1 .0), refl))
 
-pub frames-write : (n : ℕ) (fs : List Frame) → Each (λ b. frameRecords .Holds) false n fs → Each (λ b. frame strict b .Holds) false n fs
+pub frames-write : (n : ℕ) (fs : List (Frame Contact)) → Each (λ b. frameRecords .Holds) false n fs → Each (λ b. frame strict b .Holds) false n fs
 frames-write = each-held (λ b. frameRecords .Holds) (λ b. frame strict b .Holds) frame-writes

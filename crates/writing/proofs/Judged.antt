@@ -20,7 +20,7 @@ use Rattle.house.specs.declared.Head.{Head}
 use Rattle.house.specs.declared.Contact.{Contact}
 use Rattle.house.proofs.WellFormed as well
 use Rattle.house.proofs.Front.{Front, front, record-head, record-contact, well-short}
-use Rattle.touch.specs.Touch.{Frame}
+use Rattle.framing.specs.Frame.{Frame}
 use Rattle.frame_records.specs.Records.{stands, headRecord, contactRecord, frameRecords, readAll, framesIn}
 use Rattle.writing.specs.Spelling.{kindIn, contactsAfter, counted}
 use Rattle.writing.proofs.Records.{passed, stood}
@@ -72,7 +72,7 @@ contacts-shorter (suc n) l cs t e =
     let p = passed (stands touched l) (contactOf (take 21 l)) (m .head) (drop 21 l) (m .after) (m .one) in
     omega (arith, contacts-shorter n (m .after) (m .rest) t (m .others), ap length (p .2), length-drop 21 l)
 
-pub frame-shorter : (l : List ℕ) (f : Frame) (t : List ℕ) → frameRecords .read l ≡ got f t → length t < length l
+pub frame-shorter : (l : List ℕ) (f : Frame Contact) (t : List ℕ) → frameRecords .read l ≡ got f t → length t < length l
 unfolding frameRecords
 frame-shorter l f t e = go (headRecord .read l) refl e
   where
@@ -101,7 +101,7 @@ all-bound zero m (x ∷ l) h k = absurd (omega (arith, h))
 all-bound (suc n) zero (x ∷ l) h k = absurd (omega (arith, k))
 all-bound (suc n) (suc m) (x ∷ l) h k = go (frameRecords .read (x ∷ l)) refl (all-bound n m)
   where
-    go : (y : Got Frame) → frameRecords .read (x ∷ l) ≡ y → ((t : List ℕ) → length t ≤ n → length t ≤ m → readAll (frameRecords .read) n t ≡ readAll (frameRecords .read) m t)
+    go : (y : Got (Frame Contact)) → frameRecords .read (x ∷ l) ≡ y → ((t : List ℕ) → length t ≤ n → length t ≤ m → readAll (frameRecords .read) n t ≡ readAll (frameRecords .read) m t)
         → andThen y (λ a t. andThen (readAll (frameRecords .read) n t) (λ more u. got (a ∷ more) u)) ≡ andThen y (λ a t. andThen (readAll (frameRecords .read) m t) (λ more u. got (a ∷ more) u))
     go (bad y) w i = refl
     go (got a t) w i =
@@ -118,7 +118,7 @@ unfolding framesIn readAll
 frames-bad [] e h w = absurd (omega (arith, h))
 frames-bad (x ∷ l) e h w = rw w
 
-pub frames-more : (l : List ℕ) (f : Frame) (t : List ℕ) → 0 < length l → frameRecords .read l ≡ got f t → framesIn l ≡ andThen (framesIn t) (λ fs u. got (f ∷ fs) u)
+pub frames-more : (l : List ℕ) (f : Frame Contact) (t : List ℕ) → 0 < length l → frameRecords .read l ≡ got f t → framesIn l ≡ andThen (framesIn t) (λ fs u. got (f ∷ fs) u)
 unfolding framesIn readAll
 frames-more [] f t h w = absurd (omega (arith, h))
 frames-more (x ∷ l) f t h w = rw (w, all-bound (length l) (length t) t (omega (arith, frame-shorter (x ∷ l) f t w)) (omega arith))
@@ -126,18 +126,18 @@ frames-more (x ∷ l) f t h w = rw (w, all-bound (length l) (length t) t (omega 
 -- ---- the count
 
 -- n frames, and those of a reading
-abbrev pub tally : ℕ → Got (List Frame) → Got ℕ
+abbrev pub tally : ℕ → Got (List (Frame Contact)) → Got ℕ
 tally n (got fs t) = got (n + length fs) []
 tally n (bad e) = bad e
 
-pub tally-none : (x : Got (List Frame)) → tally 0 x ≡ counted x
+pub tally-none : (x : Got (List (Frame Contact))) → tally 0 x ≡ counted x
 tally-none (got fs t) = ap (λ (n : ℕ). got n []) (omega arith)
 tally-none (bad e) = refl
 
 pub tally-end : (n : ℕ) (l : List ℕ) → length l ≤ 0 → tally n (framesIn l) ≡ got n []
 tally-end n l h = ap (tally n) (frames-none l h) ∙ ap (λ (k : ℕ). got k []) (omega arith)
 
-tally-one : (n : ℕ) (f : Frame) (x : Got (List Frame)) → tally n (andThen x (λ fs u. got (f ∷ fs) u)) ≡ tally (n + 1) x
+tally-one : (n : ℕ) (f : Frame Contact) (x : Got (List (Frame Contact))) → tally n (andThen x (λ fs u. got (f ∷ fs) u)) ≡ tally (n + 1) x
 tally-one n f (got fs t) = ap (λ (n : ℕ). got n []) (omega arith)
 tally-one n f (bad e) = refl
 
@@ -145,7 +145,7 @@ tally-one n f (bad e) = refl
 pub count-more : (k : ℕ) (l t : List ℕ) → 0 < length l → skipped (frameRecords .read l) ≡ got tt t → (length t < length l) × (tally k (framesIn l) ≡ tally (k + 1) (framesIn t))
 count-more k l t h e = go (frameRecords .read l) refl e
   where
-    go : (x : Got Frame) → frameRecords .read l ≡ x → skipped x ≡ got tt t → (length t < length l) × (tally k (framesIn l) ≡ tally (k + 1) (framesIn t))
+    go : (x : Got (Frame Contact)) → frameRecords .read l ≡ x → skipped x ≡ got tt t → (length t < length l) × (tally k (framesIn l) ≡ tally (k + 1) (framesIn t))
     go (bad y) w e = never y (tt {0}) t e
     go (got f u) w e =
         let z : u ≡ t = cc in
@@ -155,6 +155,6 @@ count-more k l t h e = go (frameRecords .read l) refl e
 pub count-stop : (k : ℕ) (l : List ℕ) (e : ℕ) → 0 < length l → skipped (frameRecords .read l) ≡ bad e → tally k (framesIn l) ≡ bad e
 count-stop k l e h w = go (frameRecords .read l) refl w
   where
-    go : (x : Got Frame) → frameRecords .read l ≡ x → skipped x ≡ bad e → tally k (framesIn l) ≡ bad e
+    go : (x : Got (Frame Contact)) → frameRecords .read l ≡ x → skipped x ≡ bad e → tally k (framesIn l) ≡ bad e
     go (bad y) v w = let z : y ≡ e = cc in ap (tally k) (frames-bad l y h v) ∙ ap bad z
     go (got f u) v w = never e (tt {0}) u (sym w)

@@ -24,7 +24,8 @@ use Rattle.house.proofs.WellFormed as well
 use Rattle.house.proofs.Front.{Front, front, record-head, record-contact, well-short, front-is}
 use Rattle.house.proofs.Round.{length-head, length-contact, kind-head, kind-contact, head-well, contact-well, head-back, contact-back, head-fits, bytes-of-record}
 use Rattle.house.proofs.Learnt.{well-read}
-use Rattle.touch.specs.Touch.{Frame, headOf, contactsBytes, frameBytes, framesBytes}
+use Rattle.framing.specs.Frame.{Frame, headOf, contactsBytes, frameBytes, framesBytes}
+use Rattle.touch.specs.Touch.{touchRecord}
 use Rattle.frame_records.specs.Records.{stands, headRecord, contactRecord, frameRecords, readAll, framesIn}
 
 -- ---- one record
@@ -120,24 +121,24 @@ frame-law =
     field-law _ _ _ (times-law _ (h .count) contact-law) (λ cs b e. ap (λ f. f .contacts) e) λ cs.
     done-law _
   where
-    finds : (g : Head) (b : Frame) → Each (λ k. contactRecord .Holds) false (g .count) (b .contacts) × (b ≡ record { offset = g .offset; contacts = b .contacts }) → headOf b ≡ g
+    finds : (g : Head) (b : Frame Contact) → Each (λ k. contactRecord .Holds) false (g .count) (b .contacts) × (b ≡ record { offset = g .offset; contacts = b .contacts }) → headOf b ≡ g
     finds g b e =
         let n : length (b .contacts) ≡ g .count = each-length _ false (g .count) (b .contacts) (e .0) in
         let o : b .offset ≡ g .offset = ap (λ f. f .offset) (e .1) in
         λ j. record { count = n j; offset = o j }
 
-contacts-bytes : (cs : List Contact) → writeSeries (λ b. contactRecord .write) false cs ≡ contactsBytes cs
+contacts-bytes : (cs : List Contact) → writeSeries (λ b. contactRecord .write) false cs ≡ contactsBytes touchRecord cs
 unfolding writeSeries contactsBytes
 contacts-bytes [] = refl
 contacts-bytes (c ∷ cs) = ap (λ l. contactBytes touched c ++ l) (contacts-bytes cs)
 
-pub frame-bytes : (f : Frame) → frameRecords .write f ≡ frameBytes f
+pub frame-bytes : (f : Frame Contact) → frameRecords .write f ≡ frameBytes touchRecord f
 unfolding frameRecords frameBytes
 frame-bytes f = rw (append-nil, contacts-bytes (f .contacts))
 
-pub frame-long : (f : Frame) → 21 ≤ length (frameBytes f)
+pub frame-long : (f : Frame Contact) → 21 ≤ length (frameBytes touchRecord f)
 unfolding frameBytes
-frame-long f = omega (arith, length-append (headBytes (headOf f)) (contactsBytes (f .contacts)), length-head (headOf f))
+frame-long f = omega (arith, length-append (headBytes (headOf f)) (contactsBytes touchRecord (f .contacts)), length-head (headOf f))
 
 -- ---- values up to the end, of a lawful format whose values take a byte at least
 
@@ -201,29 +202,29 @@ module _ {A : Type 0} (f : Format A) (law : Law (Unit {0}) f) (some : (a : A) �
 
 -- ---- the frames of a slice of records
 
-frame-some : (f : Frame) → 0 < length (frameRecords .write f)
+frame-some : (f : Frame Contact) → 0 < length (frameRecords .write f)
 frame-some f = omega (arith, frame-long f, ap length (frame-bytes f))
 
-frames-bytes : (fs : List Frame) → writeSeries (λ b. frameRecords .write) false fs ≡ framesBytes fs
+frames-bytes : (fs : List (Frame Contact)) → writeSeries (λ b. frameRecords .write) false fs ≡ framesBytes touchRecord fs
 unfolding writeSeries framesBytes
 frames-bytes [] = refl
 frames-bytes (f ∷ fs) = rw (frame-bytes f, frames-bytes fs)
 
 -- every frame can be written as records
-abbrev pub FramesFit : List Frame → Type 0
+abbrev pub FramesFit : List (Frame Contact) → Type 0
 FramesFit fs = Each (λ b. frameRecords .Holds) false (length fs) fs
 
 -- WHAT IS WRITTEN IS READ BACK
-pub frames-back : (fs : List Frame) → FramesFit fs → framesIn (framesBytes fs) ≡ got fs []
+pub frames-back : (fs : List (Frame Contact)) → FramesFit fs → framesIn (framesBytes touchRecord fs) ≡ got fs []
 unfolding framesIn
 frames-back fs h = rw (frames-bytes fs) at (all-back frameRecords frame-law frame-some fs (length (writeSeries (λ b. frameRecords .write) false fs)) h (omega arith))
 
 -- WHAT IS READ WAS WRITTEN
-pub record FramesRead (l : List ℕ) (fs : List Frame) : Type 0 where
+pub record FramesRead (l : List ℕ) (fs : List (Frame Contact)) : Type 0 where
   pub fit : FramesFit fs
-  pub same : l ≡ framesBytes fs
+  pub same : l ≡ framesBytes touchRecord fs
 
-pub frames-read : (l : List ℕ) (fs : List Frame) (t : List ℕ) → Bytes l → framesIn l ≡ got fs t → FramesRead l fs
+pub frames-read : (l : List ℕ) (fs : List (Frame Contact)) (t : List ℕ) → Bytes l → framesIn l ≡ got fs t → FramesRead l fs
 unfolding framesIn
 frames-read l fs t b e =
     let r = all-read frameRecords frame-law frame-some (length l) l fs t b e in

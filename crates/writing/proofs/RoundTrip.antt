@@ -20,7 +20,9 @@ use Rattle.messages.specs.Header.{headerBytes, mostBytes, writeMessage}
 use Rattle.messages.specs.Header as event
 use Rattle.messages.proofs.Laws.{header-long, message-got, message-back, message-exact, message-sound}
 use Rattle.touch.specs.Limits.{mostFrames}
-use Rattle.touch.specs.Touch.{Frame, Touch, touch, touchHead, framesBytes}
+use Rattle.house.specs.declared.Contact.{Contact}
+use Rattle.framing.specs.Frame.{Frame, framesBytes}
+use Rattle.touch.specs.Touch.{Touch, touch, touchHead, touchRecord}
 use Rattle.touch.proofs.Laws.{strict-touch-law}
 use Rattle.frame_records.specs.Records.{framesIn}
 use Rattle.reading.specs.Plain.{plainly}
@@ -46,7 +48,7 @@ body-holds m b =
     let n = b .count in
     ((b .time, ((omega (arith, n), le-leb _ _ n), refl)), (frames-write (length (m .frames)) (m .frames) (b .frames), refl))
 
-message-long : (time : Milliseconds) (fs : List Frame) → length (messageOf time fs) ≡ headerBytes + length (touch strict false .write (record { time = time; frames = fs }))
+message-long : (time : Milliseconds) (fs : List (Frame Contact)) → length (messageOf time fs) ≡ headerBytes + length (touch strict false .write (record { time = time; frames = fs }))
 unfolding writeMessage
 message-long time fs = header-long event.touch _ _
 
@@ -58,13 +60,13 @@ unfolding touchDraft framesDraft
 draft-is m records b e k = rw (lt-ltb _ _ (b .time), e, le-leb _ _ (b .count), le-leb _ _ k)
 
 -- A TOUCH MESSAGE THAT THE PLAIN READING ACCEPTS IS WRITTEN BACK TO THE SAME BYTES FROM ITS RECORDS AND ITS ENCODE TIME
-pub accepted-is-written-back-to-the-same-bytes : (l : List ℕ) (m : Touch) (t : List ℕ) → Bytes l → plainly l ≡ got m t → touchDraft (m .time) (framesBytes (m .frames)) ≡ bytes l
+pub accepted-is-written-back-to-the-same-bytes : (l : List ℕ) (m : Touch) (t : List ℕ) → Bytes l → plainly l ≡ got m t → touchDraft (m .time) (framesBytes touchRecord (m .frames)) ≡ bytes l
 accepted-is-written-back-to-the-same-bytes l m t hl e =
     let law = strict-touch-law false in
     let b = body-is m (message-sound (touch strict false) law event.touch l m t hl e) in
     let x : l ≡ messageOf (m .time) (m .frames) = message-exact (touch strict false) law event.touch tt l m t hl e in
     let k : length (messageOf (m .time) (m .frames)) ≤ mostBytes = rw x at (message-got (touch strict false) law event.touch l m t e .head .high) in
-    draft-is m (framesBytes (m .frames)) b (frames-back (m .frames) (b .frames)) k ∙ ap bytes (sym x)
+    draft-is m (framesBytes touchRecord (m .frames)) b (frames-back (m .frames) (b .frames)) k ∙ ap bytes (sym x)
 
 -- ---- a draft that is bytes passed every check
 
@@ -76,7 +78,7 @@ passed true d e s h = (refl, h)
 passed false d e s h = refused e s h
 
 pub record Written (time : Milliseconds) (records s : List ℕ) : Type 0 where
-  pub frames : List Frame
+  pub frames : List (Frame Contact)
   pub after : List ℕ
   pub read : framesIn records ≡ got frames after
   pub early : time .0 < limit 2 0
@@ -90,7 +92,7 @@ written time records s h =
     let p = passed (ltb (time .0) (limit 2 0)) _ badRange s h in
     go (framesIn records) refl (ltb-true _ _ (p .0)) (p .1)
   where
-    go : (x : Got (List Frame)) → framesIn records ≡ x → time .0 < limit 2 0 → recordsDraft time x ≡ bytes s → Written time records s
+    go : (x : Got (List (Frame Contact))) → framesIn records ≡ x → time .0 < limit 2 0 → recordsDraft time x ≡ bytes s → Written time records s
     go (bad e) w k h = refused e s h
     go (got fs t) w k h =
         let p = passed (leb (length fs) mostFrames) _ badCount s h in
@@ -103,7 +105,7 @@ pub record ReadBack (time : Milliseconds) (records s : List ℕ) : Type 0 where
   pub message : Touch
   pub reads : plainly s ≡ got message []
   pub same-time : message .time ≡ time
-  pub same-records : framesBytes (message .frames) ≡ records
+  pub same-records : framesBytes touchRecord (message .frames) ≡ records
 
 pub written-is-read-back-to-the-same-records-and-time : (time : Milliseconds) (records s : List ℕ) → Bytes records → touchDraft time records ≡ bytes s → ReadBack time records s
 written-is-read-back-to-the-same-records-and-time time records s b h =

@@ -21,7 +21,8 @@ use Rattle.house.specs.declared.Record.the-variants as Record
 use Rattle.house.proofs.Round.{length-head, length-contact, record-of-head, record-of-contact}
 use Rattle.messages.specs.Header.{header, headerBytes, writeMessage}
 use Rattle.messages.specs.Header as event
-use Rattle.touch.specs.Touch.{Frame, headOf, contact, frame, touch, contactsBytes, frameBytes, framesBytes}
+use Rattle.framing.specs.Frame.{Frame, headOf, contactsBytes, frameBytes, framesBytes}
+use Rattle.touch.specs.Touch.{contact, frame, touch, touchRecord}
 use Rattle.frame_records.specs.Records.{contactRecord, frameRecords, framesIn}
 use Rattle.writing.specs.TouchDraft.{messageOf}
 use Rattle.writing.specs.Spelling.{spelling, Spells, spelt, Spelt, bodyOf}
@@ -74,42 +75,42 @@ one-more n b t s r long e h k =
     }
 
 contacts-more : (cs : List Contact) (m n : ℕ) (t s : List ℕ) → Each (λ b. contactRecord .Holds) false m cs → SpeltAs n t s
-    → SpeltAs (m + n) (contactsBytes cs ++ t) (writeSeries (λ b. contact strict .write) false cs ++ s)
+    → SpeltAs (m + n) (contactsBytes touchRecord cs ++ t) (writeSeries (λ b. contact strict .write) false cs ++ s)
 unfolding contactsBytes writeSeries Each
 contacts-more [] zero n t s h k = rw zero-add k
 contacts-more [] (suc m) n t s h k = absurd h
 contacts-more (c ∷ cs) zero n t s h k = absurd h
 contacts-more (c ∷ cs) (suc m) n t s h k =
-    let r = record-of-contact touched c (contactsBytes cs ++ t) (lit≤ tt) (lit< tt) (h .0 .0) in
+    let r = record-of-contact touched c (contactsBytes touchRecord cs ++ t) (lit≤ tt) (lit< tt) (h .0 .0) in
     rw (suc-add, append-assoc, append-assoc)
-    (one-more (m + n) (contactBytes touched c) (contactsBytes cs ++ t) (writeSeries (λ b. contact strict .write) false cs ++ s) (Record.Contact touched c) (length-contact touched c) r (contact-writes c (h .0)) (contacts-more cs m n t s (h .1) k))
+    (one-more (m + n) (contactBytes touched c) (contactsBytes touchRecord cs ++ t) (writeSeries (λ b. contact strict .write) false cs ++ s) (Record.Contact touched c) (length-contact touched c) r (contact-writes c (h .0)) (contacts-more cs m n t s (h .1) k))
 
-frame-more : (f : Frame) (n : ℕ) (t s : List ℕ) → frameRecords .Holds f → SpeltAs n t s → SpeltAs (suc (length (f .contacts) + n)) (frameBytes f ++ t) (frame strict false .write f ++ s)
+frame-more : (f : Frame Contact) (n : ℕ) (t s : List ℕ) → frameRecords .Holds f → SpeltAs n t s → SpeltAs (suc (length (f .contacts) + n)) (frameBytes touchRecord f ++ t) (frame strict false .write f ++ s)
 unfolding frameBytes frame frameRecords
 frame-more f n t s h k =
     let c = contacts-more (f .contacts) (length (f .contacts)) n t s (h .1 .0) k in
-    let r = record-of-head (headOf f) (contactsBytes (f .contacts) ++ t) (h .0) in
+    let r = record-of-head (headOf f) (contactsBytes touchRecord (f .contacts) ++ t) (h .0) in
     rw (append-nil, append-assoc, append-assoc)
-    (one-more (length (f .contacts) + n) (headBytes (headOf f)) (contactsBytes (f .contacts) ++ t) (writeSeries (λ b. contact strict .write) false (f .contacts) ++ s) (Record.Head (headOf f)) (length-head (headOf f)) r (head-writes (headOf f) (h .0)) c)
+    (one-more (length (f .contacts) + n) (headBytes (headOf f)) (contactsBytes touchRecord (f .contacts) ++ t) (writeSeries (λ b. contact strict .write) false (f .contacts) ++ s) (Record.Head (headOf f)) (length-head (headOf f)) r (head-writes (headOf f) (h .0)) c)
 
 -- how many records
-count : List Frame → ℕ
+count : List (Frame Contact) → ℕ
 count [] = 0
 count (f ∷ fs) = suc (length (f .contacts) + count fs)
 
-frames-spelt : (fs : List Frame) (m : ℕ) → Each (λ b. frameRecords .Holds) false m fs → SpeltAs (count fs) (framesBytes fs) (writeSeries (λ b. frame strict b .write) false fs)
+frames-spelt : (fs : List (Frame Contact)) (m : ℕ) → Each (λ b. frameRecords .Holds) false m fs → SpeltAs (count fs) (framesBytes touchRecord fs) (writeSeries (λ b. frame strict b .write) false fs)
 unfolding framesBytes writeSeries Each count
 frames-spelt [] zero h = nothing
 frames-spelt [] (suc m) h = absurd h
 frames-spelt (f ∷ fs) zero h = absurd h
-frames-spelt (f ∷ fs) (suc m) h = frame-more f (count fs) (framesBytes fs) (writeSeries (λ b. frame strict b .write) false fs) (h .0) (frames-spelt fs m (h .1))
+frames-spelt (f ∷ fs) (suc m) h = frame-more f (count fs) (framesBytes touchRecord fs) (writeSeries (λ b. frame strict b .write) false fs) (h .0) (frames-spelt fs m (h .1))
 
 -- all the records of a slice that is read as frames, and the body that they make
-pub record Spelling (time : Milliseconds) (l : List ℕ) (fs : List Frame) : Type 0 where
+pub record Spelling (time : Milliseconds) (l : List ℕ) (fs : List (Frame Contact)) : Type 0 where
   pub each : Spelt (length l / 21) l
   pub same : messageOf time fs ≡ header event.touch (headerBytes + length (bodyOf time (length fs) (length l / 21) l)) ++ bodyOf time (length fs) (length l / 21) l
 
-pub spelling-of : (time : Milliseconds) (l : List ℕ) (fs : List Frame) (t : List ℕ) → Bytes l → framesIn l ≡ got fs t → Spelling time l fs
+pub spelling-of : (time : Milliseconds) (l : List ℕ) (fs : List (Frame Contact)) (t : List ℕ) → Bytes l → framesIn l ≡ got fs t → Spelling time l fs
 unfolding writeMessage touch
 spelling-of time l fs t b e =
     let r = frames-read l fs t b e in

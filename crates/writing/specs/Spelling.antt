@@ -10,7 +10,9 @@ use Rattle.house.specs.Layout.{recordOf}
 use Rattle.house.specs.declared.Record.{Record}
 use Rattle.house.specs.declared.Record.the-variants as Record
 use Rattle.paper.specs.declared.Milliseconds.{Milliseconds}
-use Rattle.touch.specs.Touch.{Frame, contact, frameHead, touchHead}
+use Rattle.house.specs.declared.Contact.{Contact}
+use Rattle.framing.specs.Frame.{Frame}
+use Rattle.touch.specs.Touch.{contact, frameHead, touchHead}
 use Rattle.writing.specs.declared.Counted.{Counted}
 use Rattle.writing.specs.declared.Counted.the-variants as Counted
 
@@ -54,7 +56,7 @@ contactsAfter (Record.Contact kind c) = 0
 contactsAfter (Record.Refused e) = 0
 
 -- how many frames there are
-abbrev pub counted : Got (List Frame) → Got ℕ
+abbrev pub counted : Got (List (Frame Contact)) → Got ℕ
 counted (got fs t) = got (length fs) []
 counted (bad e) = bad e
 

@@ -14,22 +14,24 @@ use Rattle.fields.specs.Integers.{strict}
 use Rattle.messages.specs.Header.{writeMessage, mostBytes}
 use Rattle.messages.specs.Header as event
 use Rattle.touch.specs.Limits.{mostFrames}
-use Rattle.touch.specs.Touch.{Frame, Touch, touch}
+use Rattle.house.specs.declared.Contact.{Contact}
+use Rattle.framing.specs.Frame.{Frame}
+use Rattle.touch.specs.Touch.{Touch, touch}
 use Rattle.frame_records.specs.Records.{framesIn}
 
 -- the message of a time and frames
-abbrev pub messageOf : Milliseconds → List Frame → List ℕ
+abbrev pub messageOf : Milliseconds → List (Frame Contact) → List ℕ
 messageOf time fs = writeMessage event.touch (touch strict false) (record { time = time; frames = fs })
 
 -- 7, then 2
-unfoldable pub framesDraft : Milliseconds → List Frame → Draft
+unfoldable pub framesDraft : Milliseconds → List (Frame Contact) → Draft
 framesDraft time fs =
     cond (leb (length fs) mostFrames)
     (cond (leb (length (messageOf time fs)) mostBytes) (bytes (messageOf time fs)) (refuse tooLong))
     (refuse badCount)
 
 -- 14, over all records
-abbrev pub recordsDraft : Milliseconds → Got (List Frame) → Draft
+abbrev pub recordsDraft : Milliseconds → Got (List (Frame Contact)) → Draft
 recordsDraft time (got fs t) = framesDraft time fs
 recordsDraft time (bad e) = refuse e
 

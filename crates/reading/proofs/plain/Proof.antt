@@ -9,7 +9,8 @@ use denote.Ref.{now}
 use lib.ListN.{length, take, drop}
 use Rattle.formats.specs.Format.{got}
 use Rattle.formats.proofs.Steps.{tail}
-use Rattle.touch.specs.Touch.{framesBytes}
+use Rattle.framing.specs.Frame.{framesBytes}
+use Rattle.touch.specs.Touch.{touchRecord}
 use Rattle.touch.specs.declared.TouchHead.{TouchHead}
 use Rattle.frame_records.specs.Frames.{recordsIn}
 use Rattle.frame_records.proofs.Laws.{length-frames}
@@ -39,7 +40,7 @@ frames-read c = rw (tail (lent c) (at c)) (accepted c .frames)
 counted : (c : tie.After-count-records) → c .count-records .result ≡ recordsIn (accepted (c .before .before) .message .frames)
 counted c = c .count-records .ensures .same (accepted (c .before .before) .message .frames) [] (frames-read (c .before .before))
 
-room : (c : tie.After-count-records) → length (framesBytes (accepted (c .before .before) .message .frames)) ≡ 21 * c .count-records .result
+room : (c : tie.After-count-records) → length (framesBytes touchRecord (accepted (c .before .before) .message .frames)) ≡ 21 * c .count-records .result
 room c = length-frames (accepted (c .before .before) .message .frames) ∙ ap (λ (n : ℕ). 21 * n) (sym (counted c))
 
 judge-requires : tie.Need-judge-requires

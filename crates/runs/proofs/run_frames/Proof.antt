@@ -9,7 +9,8 @@ use native.Mathlib.Omega.{arith}
 use lib.ListN.{length, take, drop, length-drop}
 use Rattle.formats.specs.Format.{got, readSeries}
 use Rattle.formats.proofs.Steps.{tail}
-use Rattle.touch.specs.Touch.{Frame}
+use Rattle.house.specs.declared.Contact.{Contact}
+use Rattle.framing.specs.Frame.{Frame}
 use Rattle.touch.proofs.Passes.{frameBy}
 use Rattle.contacts.specs.Ruling.{tableOf, rulesOf, Counted}
 use Rattle.runs.specs.Runs.{framesOf, mostRecords}
@@ -24,7 +25,7 @@ Inv-loop out₀ wet frames n untimed most running active states₀ xs₀ ys₀ r
     × (length out ≡ length out₀)
     × (framesOf run + left ≤ 255)
     × (run .records + 65536 * left ≤ mostRecords)
-    × ((fs : List Frame) (end : List ℕ) → readSeries frameBy false n frames ≡ got fs end → Counted active states₀
+    × ((fs : List (Frame Contact)) (end : List ℕ) → readSeries frameBy false n frames ≡ got fs end → Counted active states₀
     → Underway (rulesOf most) untimed wet frames (record { table = tableOf states₀ xs₀ ys₀; running = running }) fs end out₀ run (tableOf states xs ys) out pos at left)
 
 abbrev μ-loop : tie.MeasureT-loop

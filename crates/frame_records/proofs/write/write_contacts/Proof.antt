@@ -16,7 +16,8 @@ use Rattle.fields.specs.Integers.{strict}
 use Rattle.house.specs.Layout.{contactBytes, touched}
 use Rattle.house.specs.declared.Contact.{Contact}
 use Rattle.house.proofs.Round.{length-contact}
-use Rattle.touch.specs.Touch.{contact, contactsBytes}
+use Rattle.framing.specs.Frame.{contactsBytes}
+use Rattle.touch.specs.Touch.{contact, touchRecord}
 use Rattle.frame_records.proofs.Laws.{contacts-none, contacts-cons, length-read}
 use Rattle.frame_records.proofs.Passes.{Ahead, ahead-first, ahead-bad, ahead-next, ahead-done}
 use Rattle.frame_records.proofs.write.write_contacts.Statement.{statement}
@@ -27,7 +28,7 @@ Inv-loop out₀ rest n pos₀ at₀ left₀ out pos at left =
     (at ≤ length rest)
     × (pos + 21 * left ≤ length out)
     × (length out ≡ length out₀)
-    × ((cs : List Contact) (t : List ℕ) → times n (contact strict) .read rest ≡ got cs t → Ahead (λ b. contact strict) contactsBytes rest out₀ cs t out pos at left)
+    × ((cs : List Contact) (t : List ℕ) → times n (contact strict) .read rest ≡ got cs t → Ahead (λ b. contact strict) (contactsBytes touchRecord) rest out₀ cs t out pos at left)
 
 abbrev μ-loop : tie.MeasureT-loop
 μ-loop out₀ rest n pos₀ at₀ left₀ out pos at left = left
@@ -39,7 +40,7 @@ loop-holds c = (
   refl,
   λ cs t e.
       let n = length-read _ _ cs t e in
-      ahead-first (λ b. contact strict) contactsBytes _ _ cs t _ e (omega arith),
+      ahead-first (λ b. contact strict) (contactsBytes touchRecord) _ _ cs t _ e (omega arith),
 )
 
 sub-read-contact : tie.Need-sub-read-contact Inv-loop μ-loop
@@ -68,7 +69,7 @@ returns c cs t e =
     let r = c .before .before in
     let p = r .before .before .before in
     let b = stop (contact strict) (p .before .before .before .args .rest .now) (p .loop .at) _ _ (rw (c .enum-told .given .1) at (r .read-contact .ensures)) in
-    ahead-bad (λ b. contact strict) contactsBytes _ _ cs t _ _ _ _ (p .loop .inv .3 cs t e) _ (r .before .before .loop-test .taken) b
+    ahead-bad (λ b. contact strict) (contactsBytes touchRecord) _ _ cs t _ _ _ _ (p .loop .inv .3 cs t e) _ (r .before .before .loop-test .taken) b
 
 -- the contact of this turn
 one : (c : tie.After-known-told Inv-loop μ-loop) →
@@ -126,7 +127,7 @@ loop-again c =
       one g .ends,
       omega arith,
       v .long ∙ p .loop .inv .2,
-      λ cs t e. ahead-next (λ b. contact strict) contactsBytes _ _ cs t _ _ _ _ (p .loop .inv .3 cs t e) x _ _ (contactBytes touched x) _ (r .before .before .loop-test .taken) (one g .reads) (contacts-cons x) (d .output) (sym n),
+      λ cs t e. ahead-next (λ b. contact strict) (contactsBytes touchRecord) _ _ cs t _ _ _ _ (p .loop .inv .3 cs t e) x _ _ (contactBytes touched x) _ (r .before .before .loop-test .taken) (one g .reads) (contacts-cons x) (d .output) (sym n),
     )
 
 same-length-2 : tie.Need-same-length-2 Inv-loop μ-loop
@@ -135,7 +136,7 @@ same-length-2 c = c .before .loop .inv .2
 returns-2 : tie.Need-returns-2 Inv-loop μ-loop
 returns-2 c cs t e =
     let p = c .before in
-    ahead-done (λ b. contact strict) contactsBytes _ _ cs t _ _ _ _ (p .loop .inv .3 cs t e) (c .loop-test .left) contacts-none
+    ahead-done (λ b. contact strict) (contactsBytes touchRecord) _ _ cs t _ _ _ _ (p .loop .inv .3 cs t e) (c .loop-test .left) contacts-none
 
 pub write-contacts-spec : {M : Type 1} → statement M
 write-contacts-spec =

@@ -7,7 +7,8 @@ use Rattle.slices.proofs.Laws.{writes-bytes, writes-none, writes-done}
 use Rattle.slices.proofs.Tails.{wrote-second}
 use Rattle.house.specs.Layout.{headBytes}
 use Rattle.house.proofs.Round.{length-head}
-use Rattle.touch.specs.Touch.{contactsBytes}
+use Rattle.framing.specs.Frame.{contactsBytes}
+use Rattle.touch.specs.Touch.{touchRecord}
 use Rattle.frame_records.proofs.Laws.{length-written}
 use Rattle.frame_records.proofs.write.write_frame.Statement.{statement}
 use Rattle.frame_records.proofs.write.write_frame.Tie as tie
@@ -52,7 +53,7 @@ returns-2 c cs t e =
     let n = length-written (a .head) _ cs t e in
     let k = length-head (a .head) in
     let d = writes-done _ _ _ _ (h .write-head .ensures) (omega arith) in
-    writes-bytes _ _ _ _ (omega arith) (rw n) (wrote-second (a .out .now) _ _ (headBytes (a .head)) (contactsBytes cs) 21 k (d .output) (w .write-contacts .ensures cs t e) (omega arith))
+    writes-bytes _ _ _ _ (omega arith) (rw n) (wrote-second (a .out .now) _ _ (headBytes (a .head)) (contactsBytes touchRecord cs) 21 k (d .output) (w .write-contacts .ensures cs t e) (omega arith))
 
 pub write-frame-spec : {M : Type 1} → statement M
 write-frame-spec =

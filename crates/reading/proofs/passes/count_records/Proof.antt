@@ -8,7 +8,8 @@ use mathlib.Core.List.{List}
 use native.Mathlib.Omega.{arith}
 use lib.ListN.{length}
 use Rattle.formats.specs.Format.{got}
-use Rattle.touch.specs.Touch.{Frame}
+use Rattle.house.specs.declared.Contact.{Contact}
+use Rattle.framing.specs.Frame.{Frame}
 use Rattle.frame_records.proofs.Finding.{Inside, inside}
 use Rattle.reading.specs.Passes as passes
 use Rattle.reading.proofs.Counting.{Counting, counting-first, counting-next, counting-done}
@@ -19,7 +20,7 @@ abbrev Inv-loop : tie.InvT-loop
 Inv-loop frames n records₀ at₀ left₀ records at left =
     (at ≤ length frames)
     × (records + 256 * left ≤ 256 * n)
-    × ((fs : List Frame) (t : List ℕ) → passes.frames n .read frames ≡ got fs t → Counting frames fs t records at left)
+    × ((fs : List (Frame Contact)) (t : List ℕ) → passes.frames n .read frames ≡ got fs t → Counting frames fs t records at left)
 
 abbrev μ-loop : tie.MeasureT-loop
 μ-loop frames n records₀ at₀ left₀ records at left = left

@@ -13,7 +13,8 @@ use Rattle.slices.proofs.Tails.{wrote-second}
 use Rattle.house.specs.Layout.{headBytes}
 use Rattle.house.specs.declared.Head.{Head}
 use Rattle.house.proofs.Round.{length-head}
-use Rattle.touch.specs.Touch.{contactsBytes}
+use Rattle.framing.specs.Frame.{contactsBytes}
+use Rattle.touch.specs.Touch.{touchRecord}
 use Rattle.frame_records.proofs.Laws.{length-written}
 use Rattle.runs.specs.Runs.{LaysFrame}
 use Rattle.runs.proofs.Stepping.{lays-done, lays-off, lays-short}
@@ -58,7 +59,7 @@ returns c =
       table = w .carry-contacts .ensures .table;
       output = λ cs t e.
           let n = length-written (a .head) _ cs t e in
-          lays-done _ _ _ _ (h .before .before .before .if1 .taken) (wrote-second (a .out .now) _ _ (headBytes (a .head)) (contactsBytes cs) 21 k (d .output) (w .carry-contacts .ensures .output cs t e) (omega arith));
+          lays-done _ _ _ _ (h .before .before .before .if1 .taken) (wrote-second (a .out .now) _ _ (headBytes (a .head)) (contactsBytes touchRecord cs) 21 k (d .output) (w .carry-contacts .ensures .output cs t e) (omega arith));
     }
 
 apply-requires : tie.Need-apply-requires

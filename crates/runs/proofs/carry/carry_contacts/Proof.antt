@@ -18,7 +18,8 @@ use Rattle.fields.specs.Integers.{strict}
 use Rattle.house.specs.Layout.{contactBytes, touched}
 use Rattle.house.specs.declared.Contact.{Contact}
 use Rattle.house.proofs.Round.{length-contact}
-use Rattle.touch.specs.Touch.{contact, contactsBytes}
+use Rattle.framing.specs.Frame.{contactsBytes}
+use Rattle.touch.specs.Touch.{contact, touchRecord}
 use Rattle.frame_records.proofs.Laws.{contacts-none, contacts-cons, length-read}
 use Rattle.frame_records.proofs.Passes.{Ahead, ahead-first, ahead-bad, ahead-next, ahead-done}
 use Rattle.contacts.specs.Ruling.{contactsOf, tableOf, rulesOf}
@@ -34,7 +35,7 @@ Inv-loop out₀ rest n states₀ xs₀ ys₀ pos₀ at₀ left₀ out states xs 
     × (length out ≡ length out₀)
     × (skipped (contactsOf left (drop at rest)) ≡ skipped (contactsOf n rest))
     × ((most : ℕ) → afterRead (rulesOf most) left (tableOf states xs ys) (drop at rest) ≡ afterRead (rulesOf most) n (tableOf states₀ xs₀ ys₀) rest)
-    × ((cs : List Contact) (t : List ℕ) → contactsOf n rest ≡ got cs t → Ahead (λ b. contact strict) contactsBytes rest out₀ cs t out pos at left)
+    × ((cs : List Contact) (t : List ℕ) → contactsOf n rest ≡ got cs t → Ahead (λ b. contact strict) (contactsBytes touchRecord) rest out₀ cs t out pos at left)
 
 abbrev μ-loop : tie.MeasureT-loop
 μ-loop out₀ rest n states₀ xs₀ ys₀ pos₀ at₀ left₀ out states xs ys pos at left = left
@@ -70,7 +71,7 @@ loop-holds c = (
   λ most. refl,
   λ cs t e.
       let n = length-read _ _ cs t e in
-      ahead-first (λ b. contact strict) contactsBytes _ _ cs t _ e (omega arith),
+      ahead-first (λ b. contact strict) (contactsBytes touchRecord) _ _ cs t _ e (omega arith),
 )
 
 sub-read-contact : tie.Need-sub-read-contact Inv-loop μ-loop
@@ -106,7 +107,7 @@ returns c =
         table = λ most. sym (read-bad (rulesOf most) _ (p .loop .left) _ _ h b) ∙ p .loop .inv .4 most;
         passed = ends-bad (a .n) (a .rest .now) _ (sym (ap skipped (series-bad (λ b. contact strict .read) false (p .loop .left) _ _ h b)) ∙ p .loop .inv .3);
       };
-      output = λ cs t e. ahead-bad (λ b. contact strict) contactsBytes _ _ cs t _ _ _ _ (p .loop .inv .5 cs t e) _ h b;
+      output = λ cs t e. ahead-bad (λ b. contact strict) (contactsBytes touchRecord) _ _ cs t _ _ _ _ (p .loop .inv .5 cs t e) _ h b;
     }
 
 sub-write-contact : tie.Need-sub-write-contact Inv-loop μ-loop
@@ -155,7 +156,7 @@ loop-again c =
       v .long ∙ p .loop .inv .2,
       sym (series-got (λ b. contact strict .read) false (p .loop .left) _ _ _ h (one g .reads)) ∙ p .loop .inv .3,
       λ most. read-on most _ _ (p .loop .left) (p .loop .at) _ (a .rest .now) _ h (one g) (c .move-contact .ensures) ∙ p .loop .inv .4 most,
-      λ cs t e. ahead-next (λ b. contact strict) contactsBytes _ _ cs t _ _ _ _ (p .loop .inv .5 cs t e) x _ _ (contactBytes touched x) _ h (one g .reads) (contacts-cons x) (d .output) (sym n),
+      λ cs t e. ahead-next (λ b. contact strict) (contactsBytes touchRecord) _ _ cs t _ _ _ _ (p .loop .inv .5 cs t e) x _ _ (contactBytes touched x) _ h (one g .reads) (contacts-cons x) (d .output) (sym n),
     )
 
 same-length-2 : tie.Need-same-length-2 Inv-loop μ-loop
@@ -171,7 +172,7 @@ returns-2 c =
         table = λ most. sym (read-end (rulesOf most) _ (p .loop .left) _ h) ∙ p .loop .inv .4 most;
         passed = ends-got (a .n) (a .rest .now) (p .loop .at) (sym (ap skipped (series-end (λ b. contact strict .read) false (p .loop .left) _ h)) ∙ p .loop .inv .3) (p .loop .inv .0);
       };
-      output = λ cs t e. ahead-done (λ b. contact strict) contactsBytes _ _ cs t _ _ _ _ (p .loop .inv .5 cs t e) h contacts-none;
+      output = λ cs t e. ahead-done (λ b. contact strict) (contactsBytes touchRecord) _ _ cs t _ _ _ _ (p .loop .inv .5 cs t e) h contacts-none;
     }
 
 pub carry-contacts-spec : {M : Type 1} → statement M

@@ -1,0 +1,2 @@
+-- Frames of contacts, over any contact.
+pub mod Frame

@@ -1,0 +1,1 @@
+// Frames of contacts, over any contact: definitions and laws.

@@ -1,0 +1,111 @@
+-- Document 01, "Contact states": what becomes of a frame, and of the frames of a message, one after the other.
+use Prim.Native.Nat.{ℕ, zero, suc, _+_}
+use mathlib.Core.Bool.{Bool, true, false, cond}
+use mathlib.Core.List.{List, [], _∷_, _++_}
+use lib.Dec.{eqb}
+use Rattle.states.specs.Table.{out, hovering, engaged}
+use Rattle.house.specs.Layout.{touched, cancelled as cancelKind, dismissed as dismissKind}
+use Rattle.framing.specs.Frame.{Frame, frameBytes}
+use Rattle.machine.specs.Table.{Table, contacts, stateAt, placeAt, withContact, origin, resting, active}
+use Rattle.machine.specs.Rules.{View, Rules}
+use Rattle.machine.specs.Conforms.{every, tableAfter, conforms}
+
+-- the contacts and the mode: running, or ignoring
+pub record Machine : Type 0 where
+  pub table : Table
+  pub running : Bool
+
+pub data Verdict : Type 0 where
+  injected : Verdict
+  ignored : Verdict
+  cancelled : Verdict
+
+pub record Counts : Type 0 where
+  pub injected : ℕ
+  pub ignored : ℕ
+  pub cancelled : ℕ
+
+abbrev pub countOf : Verdict → Counts
+countOf injected = record { injected = 1; ignored = 0; cancelled = 0 }
+countOf ignored = record { injected = 0; ignored = 1; cancelled = 0 }
+countOf cancelled = record { injected = 0; ignored = 0; cancelled = 1 }
+
+abbrev pub plus : Counts → Counts → Counts
+plus a b = record { injected = a .injected + b .injected; ignored = a .ignored + b .ignored; cancelled = a .cancelled + b .cancelled }
+
+abbrev pub none : Counts
+none = record { injected = 0; ignored = 0; cancelled = 0 }
+
+-- "2 a cancel, flags 0x24 if engaged, 0x22 if hovering"
+abbrev pub cancelFlags : ℕ → ℕ
+cancelFlags s = cond (eqb s engaged) 0x24 0x22
+
+-- "Dismiss: a hovering contact goes out of range with a record of kind 3; otherwise nothing happens"
+unfoldable pub dismissTable : Table → ℕ → Table
+dismissTable t id = cond (eqb (stateAt t id) hovering) (withContact t id out origin) t
+
+module _ {C : Type 0} (view : View C) where
+  -- ---- records that no message carries: "Kinds 2 and 3 carry the stored position and no optional field."
+
+  abbrev pub storedBytes : ℕ → ℕ → Table → ℕ → List ℕ
+  storedBytes kind flags t id = view .bytes kind (view .bare flags id (placeAt t id))
+
+  unfoldable pub cancelBytes : Table → ℕ → List ℕ
+  cancelBytes t id = cond (active (stateAt t id)) (storedBytes cancelKind (cancelFlags (stateAt t id)) t id) []
+
+  -- "For each active contact by rising id a record of kind 2": of n contacts from id on
+  unfoldable pub cancelsFrom : Table → ℕ → ℕ → List ℕ
+  cancelsFrom t id zero = []
+  cancelsFrom t id (suc n) = cancelBytes t id ++ cancelsFrom t (suc id) n
+
+  abbrev pub cancels : Table → List ℕ
+  cancels t = cancelsFrom t 0 contacts
+
+  unfoldable pub dismissBytes : Table → ℕ → List ℕ
+  dismissBytes t id = cond (eqb (stateAt t id) hovering) (storedBytes dismissKind 0x02 t id) []
+
+  -- ---- a frame
+
+  -- "a frame is opening if it has at least one contact and each has 0x19"
+  abbrev pub isDown : C → Bool
+  isDown c = eqb (view .flags c) 0x19
+
+  unfoldable pub opening : List C → Bool
+  opening [] = false
+  opening (c ∷ cs) = every isDown (c ∷ cs)
+
+  -- "Ignoring: .. An opening frame is judged as if running .. Any other frame is ignored and writes nothing."
+  unfoldable pub verdict : Rules C → Machine → List C → Verdict
+  verdict rules m cs =
+      cond (cond (m .running) true (opening cs)) (cond (conforms view rules (m .table) cs) injected cancelled) ignored
+
+  -- "All go out of range; the mode becomes ignoring"; "if it conforms, the mode becomes running"
+  abbrev pub machineAfter : Verdict → (ℕ → ℕ → ℕ) → Machine → List C → Machine
+  machineAfter injected next m cs = record { table = tableAfter view next (m .table) cs; running = true }
+  machineAfter ignored next m cs = m
+  machineAfter cancelled next m cs = record { table = resting; running = false }
+
+  abbrev pub bytesFor : Verdict → Machine → Frame C → List ℕ
+  bytesFor injected m f = frameBytes (view .bytes touched) f
+  bytesFor ignored m f = []
+  bytesFor cancelled m f = cancels (m .table)
+
+  unfoldable pub stepMachine : Rules C → Machine → Frame C → Machine
+  stepMachine rules m f = machineAfter (verdict rules m (f .contacts)) (rules .next) m (f .contacts)
+
+  unfoldable pub stepBytes : Rules C → Machine → Frame C → List ℕ
+  stepBytes rules m f = bytesFor (verdict rules m (f .contacts)) m f
+
+  -- ---- the frames of a message, in order
+
+  unfoldable pub runMachine : Rules C → Machine → List (Frame C) → Machine
+  runMachine rules m [] = m
+  runMachine rules m (f ∷ fs) = runMachine rules (stepMachine rules m f) fs
+
+  unfoldable pub runBytes : Rules C → Machine → List (Frame C) → List ℕ
+  runBytes rules m [] = []
+  runBytes rules m (f ∷ fs) = stepBytes rules m f ++ runBytes rules (stepMachine rules m f) fs
+
+  unfoldable pub runCounts : Rules C → Machine → List (Frame C) → Counts
+  runCounts rules m [] = none
+  runCounts rules m (f ∷ fs) = plus (countOf (verdict rules m (f .contacts))) (runCounts rules (stepMachine rules m f) fs)

@@ -5,9 +5,9 @@
 use Prim.Native.Nat.{ℕ, _≤_}
 use mathlib.Core.Path.{_≡_, refl, sym, ap, _∙_}
 use mathlib.Core.Bool.{Bool, true, false, cond}
-use mathlib.Core.List.{List}
+use mathlib.Core.List.{List, [], _∷_}
 use native.Mathlib.Omega.{arith}
-use lib.Dec.{leb, eqb}
+use lib.Dec.{leb}
 use lib.ListN.{length}
 use Rattle.paper.specs.Refusals.{none, noRoom}
 use Rattle.slices.specs.Writing.{Draft, bytes, refuse, given, answered, left, Writes}
@@ -58,7 +58,7 @@ a-writer's-refusal-changes-nothing d w before after h k = go (given (length befo
 -- a message that is not read is refused with one of 1 to 12
 plainly-tame : (l : List ℕ) → Tame (plainly l)
 unfolding readMessage
-plainly-tame l = and-then (headed (λ x. eqb x event.touch) l) _ (headed-tame _ l) (λ x b. whole-tame (touch strict false) (touch-tame false) b)
+plainly-tame l = and-then (headed (event.touch ∷ []) l) _ (headed-tame _ l) (λ x b. whole-tame (touch strict false) (touch-tame false) b)
 
 -- room asked, a refusal is one of 1 to 13
 given-numbered : (room : ℕ) (x : Got Touch) → Tame x → (n : ℕ) → given room (draftOf x) ≡ refuse n → (1 ≤ n) × (n ≤ 13)

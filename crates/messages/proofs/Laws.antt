@@ -3,7 +3,7 @@
 use Prim.Native.Nat.{ℕ, _+_, _*_, _-_, _≤_, _<_}
 use mathlib.Core.Path.{_≡_, refl, sym, ap, _∙_}
 use mathlib.Core.Bool.{Bool, true, false, cond}
-use mathlib.Core.List.{List, [], _++_, append-assoc}
+use mathlib.Core.List.{List, [], _∷_, _++_, append-assoc}
 use native.Mathlib.Omega.{arith}
 use lib.Dec.{ltb, eqb}
 use lib.ListN.{length, getD, take, drop, length-drop}
@@ -16,55 +16,83 @@ use Rattle.formats.specs.Format.{Got, got, bad, andThen, Format, byte, little, 
 use Rattle.formats.proofs.Laws.{Law, never, little-exact, whole-back, whole-exact, whole-sound, done-law, field-law, such-law, byte-law, little-law}
 use Rattle.formats.proofs.Steps.{tail}
 use Rattle.formats.proofs.Order.{Ordered, done-ordered, field-ordered, such-ordered, byte-ordered, little-ordered}
-use Rattle.messages.specs.Header.{headerBytes, mostBytes, eventOf, lengthOf, headed, readMessage, header, writeMessage}
+use Rattle.messages.specs.Header.{headerBytes, mostBytes, eventOf, pduLength, oneOf, headed, readMessage, header, writeMessage}
 use Rattle.messages.specs.Bodies.{version, versionListed, readyFlags, flagsListed, ready, nothing}
-use Rattle.messages.specs.Answer.{either, headerGot}
+use Rattle.messages.specs.Answer.{headerGot}
 use Rattle.messages.specs.declared.Header.{Header}
 use Rattle.messages.specs.declared.Header.the-variants as head
 use Rattle.messages.specs.declared.Ready.{Ready}
 use Rattle.messages.proofs.Front.{little-two, little-four}
 
+-- ---- one of those listed
+
+module _ (e : ℕ) (es : List ℕ) (x : ℕ) where
+  pub one-of-first : x ≡ e → oneOf (e ∷ es) x ≡ true
+  unfolding oneOf
+  one-of-first h = rw (eq-eqb _ _ h)
+
+  pub one-of-later : eqb x e ≡ false → oneOf (e ∷ es) x ≡ oneOf es x
+  unfolding oneOf
+  one-of-later h = rw h
+
+pub one-of-one : (e x : ℕ) → oneOf (e ∷ []) x ≡ eqb x e
+unfolding oneOf
+one-of-one e x = go (eqb x e)
+  where
+    go : (b : Bool) → cond b true false ≡ b
+    go true = refl
+    go false = refl
+
+-- one that is listed twice
+pub one-of-twice : (e x : ℕ) → oneOf (e ∷ e ∷ []) x ≡ oneOf (e ∷ []) x
+unfolding oneOf
+one-of-twice e x = go (eqb x e)
+  where
+    go : (b : Bool) → cond b true (cond b true false) ≡ cond b true false
+    go true = refl
+    go false = refl
+
 -- ---- the header, check by check
 
-module _ (taken : ℕ → Bool) (l : List ℕ) where
-  pub headed-short : length l < headerBytes → headed taken l ≡ bad short
+module _ (events : List ℕ) (l : List ℕ) where
+  pub headed-short : length l < headerBytes → headed events l ≡ bad short
   unfolding headed
   headed-short h = rw (lt-ltb _ _ h)
 
-  pub headed-long : mostBytes < length l → headed taken l ≡ bad tooLong
+  pub headed-long : mostBytes < length l → headed events l ≡ bad tooLong
   unfolding headed
   headed-long h =
       let k : headerBytes ≤ length l = omega arith in
       rw (le-ltb _ _ k, lt-ltb _ _ h)
 
   module _ (low : headerBytes ≤ length l) (high : length l ≤ mostBytes) where
-    pub headed-event : taken (eventOf l) ≡ false → headed taken l ≡ bad unexpected
+    pub headed-event : oneOf events (eventOf l) ≡ false → headed events l ≡ bad unexpected
     unfolding headed
     headed-event h = rw (le-ltb _ _ low, le-ltb _ _ high, h)
 
-    pub headed-length : taken (eventOf l) ≡ true → eqb (lengthOf l) (length l) ≡ false → headed taken l ≡ bad badLength
+    pub headed-length : oneOf events (eventOf l) ≡ true → eqb (pduLength l) (length l) ≡ false → headed events l ≡ bad badLength
     unfolding headed
     headed-length h k = rw (le-ltb _ _ low, le-ltb _ _ high, h, k)
 
-    pub headed-good : taken (eventOf l) ≡ true → lengthOf l ≡ length l → headed taken l ≡ got (eventOf l) (drop headerBytes l)
+    pub headed-good : oneOf events (eventOf l) ≡ true → pduLength l ≡ length l → headed events l ≡ got (eventOf l) (drop headerBytes l)
     unfolding headed
     headed-good h k = rw (le-ltb _ _ low, le-ltb _ _ high, h, eq-eqb _ _ k)
 
 -- what an accepted header says
-pub record Headed (taken : ℕ → Bool) (l : List ℕ) (e : ℕ) (b : List ℕ) : Type 0 where
+pub record Headed (events : List ℕ) (l : List ℕ) (e : ℕ) (b : List ℕ) : Type 0 where
   pub low : headerBytes ≤ length l
   pub high : length l ≤ mostBytes
-  pub takes : taken e ≡ true
+  pub takes : oneOf events e ≡ true
   pub event : eventOf l ≡ e
-  pub long : lengthOf l ≡ length l
+  pub long : pduLength l ≡ length l
   pub body : drop headerBytes l ≡ b
 
-pub headed-got : (taken : ℕ → Bool) (l : List ℕ) (e : ℕ) (b : List ℕ) → headed taken l ≡ got e b → Headed taken l e b
+pub headed-got : (events : List ℕ) (l : List ℕ) (e : ℕ) (b : List ℕ) → headed events l ≡ got e b → Headed events l e b
 unfolding headed
-headed-got taken l e b h = go (ltb (length l) headerBytes) refl (ltb mostBytes (length l)) refl (taken (eventOf l)) refl (eqb (lengthOf l) (length l)) refl h
+headed-got events l e b h = go (ltb (length l) headerBytes) refl (ltb mostBytes (length l)) refl (oneOf events (eventOf l)) refl (eqb (pduLength l) (length l)) refl h
   where
-    go : (p : Bool) → ltb (length l) headerBytes ≡ p → (q : Bool) → ltb mostBytes (length l) ≡ q → (r : Bool) → taken (eventOf l) ≡ r → (s : Bool) → eqb (lengthOf l) (length l) ≡ s
-        → cond p (bad short) (cond q (bad tooLong) (cond r (cond s (got (eventOf l) (drop headerBytes l)) (bad badLength)) (bad unexpected))) ≡ got e b → Headed taken l e b
+    go : (p : Bool) → ltb (length l) headerBytes ≡ p → (q : Bool) → ltb mostBytes (length l) ≡ q → (r : Bool) → oneOf events (eventOf l) ≡ r → (s : Bool) → eqb (pduLength l) (length l) ≡ s
+        → cond p (bad short) (cond q (bad tooLong) (cond r (cond s (got (eventOf l) (drop headerBytes l)) (bad badLength)) (bad unexpected))) ≡ got e b → Headed events l e b
     go true ep q eq r er s es h = never short e b h
     go false ep true eq r er s es h = never tooLong e b h
     go false ep false eq false er s es h = never unexpected e b h
@@ -72,39 +100,32 @@ headed-got taken l e b h = go (ltb (length l) headerBytes) refl (ltb mostBytes (
     go false ep false eq true er true es h =
         let z : eventOf l ≡ e = cc in
         let y : drop headerBytes l ≡ b = cc in
-        record { low = ltb-false _ _ ep; high = ltb-false _ _ eq; takes = ap taken (sym z) ∙ er; event = z; long = eqb-true _ _ es; body = y }
+        record { low = ltb-false _ _ ep; high = ltb-false _ _ eq; takes = ap (oneOf events) (sym z) ∙ er; event = z; long = eqb-true _ _ es; body = y }
 
 -- whatever else was taken: the message is one of its own event
-pub headed-one : (taken : ℕ → Bool) (l : List ℕ) (e : ℕ) (b : List ℕ) → headed taken l ≡ got e b → headed (λ x. eqb x e) l ≡ got e b
-headed-one taken l e b h =
-    let k = headed-got taken l e b h in
-    headed-good (λ x. eqb x e) l (k .low) (k .high) (eq-eqb _ _ (k .event)) (k .long) ∙ λ i. got (k .event i) (k .body i)
+pub headed-one : (events : List ℕ) (l : List ℕ) (e : ℕ) (b : List ℕ) → headed events l ≡ got e b → headed (e ∷ []) l ≡ got e b
+headed-one events l e b h =
+    let k = headed-got events l e b h in
+    headed-good (e ∷ []) l (k .low) (k .high) (one-of-first e [] _ (k .event)) (k .long) ∙ λ i. got (k .event i) (k .body i)
 
-pub message-of : {A : Type 0} (f : Format A) (taken : ℕ → Bool) (l : List ℕ) (e : ℕ) (b : List ℕ) → headed taken l ≡ got e b → readMessage e f l ≡ whole f trailing b
+pub message-of : {A : Type 0} (f : Format A) (events : List ℕ) (l : List ℕ) (e : ℕ) (b : List ℕ) → headed events l ≡ got e b → readMessage e f l ≡ whole f trailing b
 unfolding readMessage
-message-of f taken l e b h = rw (headed-one taken l e b h)
+message-of f events l e b h = rw (headed-one events l e b h)
 
 -- one event, named twice
-pub either-same : (e x : ℕ) → either e e x ≡ eqb x e
-either-same e x = go (eqb x e)
-  where
-    go : (b : Bool) → cond b true b ≡ b
-    go true = refl
-    go false = refl
-
-pub headed-same : (e : ℕ) (l : List ℕ) → headed (either e e) l ≡ headed (λ x. eqb x e) l
+pub headed-same : (e : ℕ) (l : List ℕ) → headed (e ∷ e ∷ []) l ≡ headed (e ∷ []) l
 unfolding headed
-headed-same e l = rw (either-same e (eventOf l))
+headed-same e l = rw (one-of-twice e (eventOf l))
 
 -- a message is read by its header, for the one event, and then its body: what the code's answer for the header says of the whole
-module _ (e : ℕ) (l : List ℕ) (r : Header) (h : headerGot r l ≡ headed (either e e) l) where
+module _ (e : ℕ) (l : List ℕ) (r : Header) (h : headerGot r l ≡ headed (e ∷ e ∷ []) l) where
   pub message-refused : {A : Type 0} (f : Format A) (x : ℕ) → r ≡ head.Refused x → readMessage e f l ≡ bad x
   unfolding readMessage
   message-refused f x w = rw (sym (headed-same e l) ∙ sym (rw w at h))
 
   module _ (x : ℕ) (w : r ≡ head.Event x) where
     pub message-low : headerBytes ≤ length l
-    message-low = headed-got (either e e) l x (drop headerBytes l) (sym (rw w at h)) .low
+    message-low = headed-got (e ∷ e ∷ []) l x (drop headerBytes l) (sym (rw w at h)) .low
 
     -- the body is lent as the message's tail
     pub message-body : {A : Type 0} (f : Format A) → readMessage e f l ≡ whole f trailing (take (length l - headerBytes) (drop headerBytes l))
@@ -118,7 +139,7 @@ pub event-back : (e n : ℕ) (t : List ℕ) → e < 65536 → eventOf (header e 
 unfolding writeLittle
 event-back e n t h = omega arith
 
-pub length-back : (e n : ℕ) (t : List ℕ) → n < 4294967296 → lengthOf (header e n ++ t) ≡ n
+pub length-back : (e n : ℕ) (t : List ℕ) → n < 4294967296 → pduLength (header e n ++ t) ≡ n
 unfolding writeLittle
 length-back e n t h = omega arith
 
@@ -133,17 +154,17 @@ body-back e n t = refl
 -- the length field, in the tail from its first byte
 pub length-tail : (l : List ℕ) (n : ℕ)
     → n ≡ ((getD (take (length l - 2) (drop 2 l)) 3 0 * 256 + getD (take (length l - 2) (drop 2 l)) 2 0) * 256 + getD (take (length l - 2) (drop 2 l)) 1 0) * 256 + getD (take (length l - 2) (drop 2 l)) 0 0
-    → lengthOf l ≡ n
+    → pduLength l ≡ n
 length-tail l n h = sym (simp (tail l 2, getD-drop) at h)
 
 -- and every list that is long enough starts with its header
-pub header-exact : (l : List ℕ) → Bytes l → headerBytes ≤ length l → l ≡ header (eventOf l) (lengthOf l) ++ drop headerBytes l
+pub header-exact : (l : List ℕ) → Bytes l → headerBytes ≤ length l → l ≡ header (eventOf l) (pduLength l) ++ drop headerBytes l
 header-exact l hl h =
     let two : l ≡ writeLittle 2 (eventOf l) ++ drop 2 l = little-exact 2 l (eventOf l) (drop 2 l) hl (little-two l (omega arith)) in
     let k : 4 ≤ length (drop 2 l) = rw (length-drop 2 l) (omega arith) in
-    let four : drop 2 l ≡ writeLittle 4 (lengthOf l) ++ drop headerBytes l =
-    little-exact 4 (drop 2 l) (lengthOf l) (drop headerBytes l) (bytes-drop 2 l hl) (simp (getD-drop, drop-drop) at (little-four (drop 2 l) k)) in
-    two ∙ ap (λ (x : List ℕ). writeLittle 2 (eventOf l) ++ x) four ∙ sym (append-assoc (writeLittle 2 (eventOf l)) (writeLittle 4 (lengthOf l)) (drop headerBytes l))
+    let four : drop 2 l ≡ writeLittle 4 (pduLength l) ++ drop headerBytes l =
+    little-exact 4 (drop 2 l) (pduLength l) (drop headerBytes l) (bytes-drop 2 l hl) (simp (getD-drop, drop-drop) at (little-four (drop 2 l) k)) in
+    two ∙ ap (λ (x : List ℕ). writeLittle 2 (eventOf l) ++ x) four ∙ sym (append-assoc (writeLittle 2 (eventOf l)) (writeLittle 4 (pduLength l)) (drop headerBytes l))
 
 -- ---- THE ROUND TRIP, for every lawful format of a body
 
@@ -156,24 +177,24 @@ module _ {X : Type 0} {A : Type 0} (f : Format A) (law : Law X f) (e : ℕ) wher
       let l = header e n ++ f .write a in
       let long : length l ≡ n = header-long e n (f .write a) in
       let g =
-      headed-good (λ x. eqb x e) l (omega arith) (omega arith) (eq-eqb _ _ (event-back e n (f .write a) he)) (length-back e n (f .write a) (omega arith) ∙ sym long) in
+      headed-good (e ∷ []) l (omega arith) (omega arith) (one-of-first e [] _ (event-back e n (f .write a) he)) (length-back e n (f .write a) (omega arith) ∙ sym long) in
       rw (g, body-back e n (f .write a)) (whole-back f trailing (law .back) a h)
 
   -- what a message that is read says: its header, and the whole of its body
   pub record Read (l : List ℕ) (a : A) (t : List ℕ) : Type 0 where
-    pub head : Headed (λ x. eqb x e) l e (drop headerBytes l)
+    pub head : Headed (e ∷ []) l e (drop headerBytes l)
     pub rest : whole f trailing (drop headerBytes l) ≡ got a t
 
   pub message-got : (l : List ℕ) (a : A) (t : List ℕ) → readMessage e f l ≡ got a t → Read l a t
   unfolding readMessage
-  message-got l a t h = go (headed (λ x. eqb x e) l) refl h
+  message-got l a t h = go (headed (e ∷ []) l) refl h
     where
-      go : (x : Got ℕ) → headed (λ x. eqb x e) l ≡ x → andThen x (λ x b. whole f trailing b) ≡ got a t → Read l a t
+      go : (x : Got ℕ) → headed (e ∷ []) l ≡ x → andThen x (λ x b. whole f trailing b) ≡ got a t → Read l a t
       go (bad x) w h = never x a t h
       go (got y b) w h =
-          let k = headed-got (λ x. eqb x e) l y b w in
-          let z : y ≡ e = eqb-true _ _ (k .takes) in
-          record { head = headed-got (λ x. eqb x e) l e (drop headerBytes l) (rw (← k .body, z) at w); rest = rw (k .body) h }
+          let k = headed-got (e ∷ []) l y b w in
+          let z : y ≡ e = eqb-true _ _ (sym (one-of-one e y) ∙ k .takes) in
+          record { head = headed-got (e ∷ []) l e (drop headerBytes l) (rw (← k .body, z) at w); rest = rw (k .body) h }
 
   -- what is read is written back to the same bytes
   pub message-exact : X → (l : List ℕ) (a : A) (t : List ℕ) → Bytes l → readMessage e f l ≡ got a t → l ≡ writeMessage e f a

@@ -2,7 +2,7 @@
 -- Assumes nothing.
 use Prim.Native.Nat.{ℕ}
 use mathlib.Core.Path.{_≡_, sym, ap, _∙_}
-use mathlib.Core.List.{List}
+use mathlib.Core.List.{List, [], _∷_}
 use native.Mathlib.Omega.{arith}
 use Rattle.paper.specs.Refusals.{trailing}
 use Rattle.slices.specs.Writing.{Draft, bytes, Writes}
@@ -12,7 +12,7 @@ use Rattle.formats.specs.Format.{got, bad, whole, byte}
 use Rattle.formats.specs.Answer.{refusalOf}
 use Rattle.messages.specs.Header.{headed, readMessage, serverReady, clientReady, suspend, resume, dismiss, header}
 use Rattle.messages.specs.Bodies.{version, ready, nothing, serverReadyDraft, clientReadyDraft, suspendDraft, resumeDraft, dismissDraft}
-use Rattle.messages.specs.Answer.{either, headerGot, versionGot, readyGot, dismissGot}
+use Rattle.messages.specs.Answer.{headerGot, versionGot, readyGot, dismissGot}
 use Rattle.messages.specs.declared.Ready.{Ready}
 use Rattle.messages.specs.declared.Header.{Header}
 use Rattle.messages.specs.declared.Header.the-variants as head
@@ -60,7 +60,7 @@ abbrev One : {R : Type 0} → (List ℕ → R → Type 0) → Type 0
 One {R} P = (l : List ℕ) (r s : R) → P l r → P l s → r ≡ s
 
 pub record Readers : Type 0 where
-  pub read-header : (first second : ℕ) → One (λ l r. headerGot r l ≡ headed (either first second) l)
+  pub read-header : (first second : ℕ) → One (λ l r. headerGot r l ≡ headed (first ∷ second ∷ []) l)
   pub read-server-ready-body : One (λ l r. versionGot r ≡ whole version trailing l)
   pub read-ready-body : One (λ l r. readyGot r ≡ whole ready trailing l)
   pub read-empty-body : One (λ l r. r ≡ refusalOf (whole nothing trailing l))
@@ -92,7 +92,7 @@ abbrev Same : Draft → Type 0
 Same d = (v w : Written) (before after after′ : List ℕ) → Writes d v before after → Writes d w before after′ → (v ≡ w) × (after ≡ after′)
 
 pub record Writers : Type 0 where
-  pub write-header : (event length : ℕ) → Same (bytes (header event length))
+  pub write-header : (event total : ℕ) → Same (bytes (header event total))
   pub write-server-ready : (v : ℕ) → Same (serverReadyDraft v)
   pub write-client-ready : (r : Ready) → Same (clientReadyDraft r)
   pub write-suspend : Same suspendDraft
@@ -102,7 +102,7 @@ pub record Writers : Type 0 where
 pub writers-unique : Writers
 writers-unique =
     record {
-      write-header = λ event length. writes-unique (bytes (header event length));
+      write-header = λ event total. writes-unique (bytes (header event total));
       write-server-ready = λ v. writes-unique (serverReadyDraft v);
       write-client-ready = λ r. writes-unique (clientReadyDraft r);
       write-suspend = writes-unique suspendDraft;

@@ -1,9 +1,7 @@
 -- What the code's answers mean, and the contract of the writers whose callers have made room.
 use Prim.Native.Nat.{ℕ}
 use mathlib.Core.Path.{_≡_}
-use mathlib.Core.Bool.{Bool, true, cond}
 use mathlib.Core.List.{List, []}
-use lib.Dec.{eqb}
 use lib.ListN.{length, drop}
 use Rattle.slices.specs.Writing.{laid}
 use Rattle.formats.specs.Format.{Got, got, bad}
@@ -21,10 +19,6 @@ use Rattle.messages.specs.declared.Two.the-variants as two
 use Rattle.messages.specs.declared.Four.{Four}
 use Rattle.messages.specs.declared.Four.the-variants as four
 use Rattle.messages.specs.declared.Ready.{Ready}
-
--- the events that a caller takes: one of two
-abbrev pub either : ℕ → ℕ → ℕ → Bool
-either a b x = cond (eqb x a) true (eqb x b)
 
 -- ---- messages and bodies: nothing is left behind
 

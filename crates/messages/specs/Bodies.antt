@@ -2,22 +2,18 @@
 -- ready: flags 4, version 4, maxTouchContacts 2. All little-endian. Versions are 0x00010000 and 0x00010001; flag bits are 1 and 2 only. 4
 -- suspend and 5 resume: header only. 6, dismiss: contact id, 1 byte."
 use Prim.Native.Nat.{ℕ}
-use mathlib.Core.Bool.{Bool, true, false, cond}
+use mathlib.Core.Bool.{Bool, cond}
 use mathlib.Core.List.{List, [], _∷_}
-use lib.Dec.{ltb, eqb}
+use lib.Dec.{ltb}
 use Rattle.paper.specs.Refusals.{badField}
 use Rattle.slices.specs.Writing.{Draft, bytes, refuse}
 use Rattle.formats.specs.Format.{Format, done, field, such, byte, little}
-use Rattle.messages.specs.Header.{writeMessage, serverReady, clientReady, suspend, resume, dismiss}
+use Rattle.messages.specs.Header.{oneOf, writeMessage, serverReady, clientReady, suspend, resume, dismiss}
 use Rattle.messages.specs.declared.Ready.{Ready}
 
 -- the versions, in one list
 abbrev pub versions : List ℕ
 versions = 0x00010000 ∷ 0x00010001 ∷ []
-
-unfoldable pub oneOf : List ℕ → ℕ → Bool
-oneOf [] v = false
-oneOf (x ∷ xs) v = cond (eqb v x) true (oneOf xs v)
 
 unfoldable pub versionListed : ℕ → Bool
 versionListed = oneOf versions

@@ -1,7 +1,7 @@
 -- Document 01, "Messages": "Header: eventId 2 bytes, pduLength 4 bytes, little-endian; the length counts the header", and checks 1 to 4.
 use Prim.Native.Nat.{ℕ, _+_, _*_}
-use mathlib.Core.Bool.{Bool, cond}
-use mathlib.Core.List.{List, _++_}
+use mathlib.Core.Bool.{Bool, true, false, cond}
+use mathlib.Core.List.{List, [], _∷_, _++_}
 use lib.Dec.{ltb, eqb}
 use lib.ListN.{length, getD, drop}
 use Rattle.paper.specs.Refusals.{short, tooLong, unexpected, badLength, trailing}
@@ -40,21 +40,25 @@ mostBytes = 4096
 abbrev pub eventOf : List ℕ → ℕ
 eventOf l = getD l 1 0 * 256 + getD l 0 0
 
-abbrev pub lengthOf : List ℕ → ℕ
-lengthOf l = ((getD l 5 0 * 256 + getD l 4 0) * 256 + getD l 3 0) * 256 + getD l 2 0
+abbrev pub pduLength : List ℕ → ℕ
+pduLength l = ((getD l 5 0 * 256 + getD l 4 0) * 256 + getD l 3 0) * 256 + getD l 2 0
+
+unfoldable pub oneOf : List ℕ → ℕ → Bool
+oneOf [] v = false
+oneOf (x ∷ xs) v = cond (eqb v x) true (oneOf xs v)
 
 -- "Checks 1 to 4 run in that order": the event, of those that are taken, and the body
-unfoldable pub headed : (ℕ → Bool) → List ℕ → Got ℕ
-headed taken l =
+unfoldable pub headed : List ℕ → List ℕ → Got ℕ
+headed events l =
     cond (ltb (length l) headerBytes) (bad short)
     (cond (ltb mostBytes (length l)) (bad tooLong)
-    (cond (taken (eventOf l))
-    (cond (eqb (lengthOf l) (length l)) (got (eventOf l) (drop headerBytes l)) (bad badLength))
+    (cond (oneOf events (eventOf l))
+    (cond (eqb (pduLength l) (length l)) (got (eventOf l) (drop headerBytes l)) (bad badLength))
     (bad unexpected)))
 
 -- a message of the event e, whose body is all of the format f; bytes after it are 12
 unfoldable pub readMessage : {A : Type 0} → ℕ → Format A → List ℕ → Got A
-readMessage e f l = andThen (headed (λ x. eqb x e) l) (λ x b. whole f trailing b)
+readMessage e f l = andThen (headed (e ∷ []) l) (λ x b. whole f trailing b)
 
 -- ---- writing
 

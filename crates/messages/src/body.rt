@@ -56,13 +56,13 @@ pub fn read_server_ready_body(body: &[u8]) -> ReadVersion
     ensures { λ r. ⌜ versionGot r ≡ whole version trailing (now (body .entry)) ⌝ }
 {
     let field = read_version(body);
-    let Four::Value(version) = field else {
+    let Four::Value(v) = field else {
         return ReadVersion::Refused(four_fault(field));
     };
     if 4 < body.len() {
         return ReadVersion::Refused(paper::TRAILING);
     }
-    ReadVersion::Version(version)
+    ReadVersion::Version(v)
 }
 
 // The body of client ready.
@@ -74,7 +74,7 @@ pub fn read_ready_body(body: &[u8]) -> ReadReady
         return ReadReady::Refused(four_fault(first));
     };
     let second = read_version(&body[4..]);
-    let Four::Value(version) = second else {
+    let Four::Value(v) = second else {
         return ReadReady::Refused(four_fault(second));
     };
     let third = read_two(&body[8..]);
@@ -84,12 +84,12 @@ pub fn read_ready_body(body: &[u8]) -> ReadReady
     if 10 < body.len() {
         return ReadReady::Refused(paper::TRAILING);
     }
-    let ready = Ready {
+    let settings = Ready {
         flags: flags,
-        version: version,
+        version: v,
         most: most,
     };
-    ReadReady::Ready(ready)
+    ReadReady::Ready(settings)
 }
 
 // The body of suspend and of resume: there is none.

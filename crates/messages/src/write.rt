@@ -22,12 +22,12 @@ fn refused(refusal: u8) -> Written
     }
 }
 
-fn written(bytes: usize) -> Written
-    ensures { λ r. ⌜ r ≡ record { refusal = 0; bytes = bytes } ⌝ }
+fn written(count: usize) -> Written
+    ensures { λ r. ⌜ r ≡ record { refusal = 0; bytes = count } ⌝ }
 {
     Written {
         refusal: 0,
-        bytes: bytes,
+        bytes: count,
     }
 }
 
@@ -49,14 +49,14 @@ fn put_ready(out: &mut [u8], settings: Ready) -> usize
     end + put_two(&mut out[end..], settings.most)
 }
 
-// A header by itself, for an event and a length that counts the header.
-pub fn write_header(out: &mut [u8], event: u16, length: u32) -> Written
-    ensures { λ r. ⌜ Writes (bytes (header event length)) r (now (out .entry)) (now (out .exit)) ⌝ }
+// A header by itself, for an event and a total that counts the header.
+pub fn write_header(out: &mut [u8], event: u16, total: u32) -> Written
+    ensures { λ r. ⌜ Writes (bytes (header event total)) r (now (out .entry)) (now (out .exit)) ⌝ }
 {
     if out.len() < crate::HEADER_BYTES {
         return refused(paper::NO_ROOM);
     }
-    written(put_header(out, event, length))
+    written(put_header(out, event, total))
 }
 
 pub fn write_server_ready(out: &mut [u8], version: u32) -> Written
@@ -72,20 +72,20 @@ pub fn write_server_ready(out: &mut [u8], version: u32) -> Written
     written(at + put_four(&mut out[at..], version))
 }
 
-pub fn write_client_ready(out: &mut [u8], ready: Ready) -> Written
-    ensures { λ r. ⌜ Writes (clientReadyDraft ready) r (now (out .entry)) (now (out .exit)) ⌝ }
+pub fn write_client_ready(out: &mut [u8], settings: Ready) -> Written
+    ensures { λ r. ⌜ Writes (clientReadyDraft settings) r (now (out .entry)) (now (out .exit)) ⌝ }
 {
-    if crate::FLAGS_END <= ready.flags {
+    if crate::FLAGS_END <= settings.flags {
         return refused(paper::BAD_FIELD);
     }
-    if !is_version(ready.version) {
+    if !is_version(settings.version) {
         return refused(paper::BAD_FIELD);
     }
     if out.len() < crate::CLIENT_READY_BYTES {
         return refused(paper::NO_ROOM);
     }
     let at = put_header(out, crate::CLIENT_READY, crate::CLIENT_READY_BYTES as u32);
-    written(at + put_ready(&mut out[at..], ready))
+    written(at + put_ready(&mut out[at..], settings))
 }
 
 pub fn write_suspend(out: &mut [u8]) -> Written

@@ -1,9 +1,9 @@
 -- What becomes of one message: it is refused, or it is a client ready, a touch or a dismissal that is accepted.
 -- Assumes nothing.
 use Prim.Native.Nat.{ℕ}
-use mathlib.Core.Path.{_≡_, refl, sym}
+use mathlib.Core.Path.{_≡_, refl, sym, _∙_}
 use mathlib.Core.Bool.{Bool, true, false, cond}
-use mathlib.Core.List.{List, []}
+use mathlib.Core.List.{List, [], _∷_}
 use lib.Dec.{eqb, leb}
 use lib.ListN.{length, drop}
 use borrow.Author.Tests.{eqb-true}
@@ -12,10 +12,10 @@ use Rattle.paper.specs.Refusals.{none, noRoom, trailing}
 use Rattle.slices.specs.Writing.{bytes, refuse, given}
 use Rattle.formats.specs.Format.{Got, got, bad, andThen, whole, byte}
 use Rattle.fields.specs.Integers.{strict}
-use Rattle.messages.specs.Header.{headed, headerBytes, clientReady, touch}
+use Rattle.messages.specs.Header.{oneOf, headed, headerBytes, clientReady, touch, dismiss}
 use Rattle.messages.specs.Bodies.{ready}
 use Rattle.messages.specs.declared.Ready.{Ready}
-use Rattle.messages.proofs.Laws.{headed-got}
+use Rattle.messages.proofs.Laws.{one-of-one, headed-got}
 use Rattle.house.specs.declared.Contact.{Contact}
 use Rattle.framing.specs.Frame.{Frame}
 use Rattle.touch.specs.Touch.{Touch, body}
@@ -36,17 +36,19 @@ pub data Does (r : Receiver) (l : List ℕ) : Got Effect → Got Touch → Type 
   dismisses : (id : ℕ) (t : List ℕ) (k : ℕ) → off (r .ready) ≡ false → whole byte trailing (drop headerBytes l) ≡ got id t → Does r l (got (dismissedBy r id) t) (bad k)
 
 -- "The receiver takes event 2 until it accepts one, then only 3 and 6."
-takes-ready : (b : Bool) → cond b true (cond (eqb clientReady touch) true (eqb clientReady 6)) ≡ true → b ≡ true
+takes-ready : (b : Bool) → oneOf (cond b (clientReady ∷ []) (touch ∷ dismiss ∷ [])) clientReady ≡ true → b ≡ true
+unfolding oneOf
 takes-ready true h = refl
 takes-ready false h = h
 
-takes-touch : (b : Bool) → cond b (eqb touch clientReady) true ≡ true → b ≡ false
+takes-touch : (b : Bool) → oneOf (cond b (clientReady ∷ []) (touch ∷ dismiss ∷ [])) touch ≡ true → b ≡ false
+unfolding oneOf
 takes-touch true h = sym h
 takes-touch false h = refl
 
-takes-other : (b c : Bool) → cond b false c ≡ true → b ≡ false
-takes-other true c h = sym h
-takes-other false c h = refl
+takes-other : (b : Bool) (e : ℕ) → eqb e clientReady ≡ false → oneOf (cond b (clientReady ∷ []) (touch ∷ dismiss ∷ [])) e ≡ true → b ≡ false
+takes-other true e p h = sym h ∙ one-of-one clientReady e ∙ p
+takes-other false e p h = refl
 
 module _ (r : Receiver) (l : List ℕ) where
   settles-by : (x : Got Ready) → off (r .ready) ≡ true → Does r l (andThen x (λ s t. got (settled r s) t)) (bad none)
@@ -64,7 +66,7 @@ module _ (r : Receiver) (l : List ℕ) where
   abbrev touchBy : ℕ → List ℕ → Got Touch
   touchBy e b = cond (eqb e touch) (body strict (judged r) b) (bad none)
 
-  by-event : (e : ℕ) → takes r e ≡ true → (p q : Bool) → eqb e clientReady ≡ p → eqb e touch ≡ q → let b = drop headerBytes l in Does r l (bodyEffect r e b) (touchBy e b)
+  by-event : (e : ℕ) → oneOf (takes r) e ≡ true → (p q : Bool) → eqb e clientReady ≡ p → eqb e touch ≡ q → let b = drop headerBytes l in Does r l (bodyEffect r e b) (touchBy e b)
   by-event e k true q hp hq =
       let z : e ≡ clientReady = eqb-true _ _ hp in
       let o = takes-ready (off (r .ready)) (rw z at k) in
@@ -74,7 +76,7 @@ module _ (r : Receiver) (l : List ℕ) where
       let o = takes-touch (off (r .ready)) (rw z at k) in
       rw z (touches-by (body strict (judged r) (drop headerBytes l)) o refl)
   by-event e k false false hp hq =
-      let o = takes-other (off (r .ready)) (cond (eqb e touch) true (eqb e 6)) (rw hp at k) in
+      let o = takes-other (off (r .ready)) e hp k in
       rw (hp, hq) (dismisses-by (whole byte trailing (drop headerBytes l)) o refl)
 
   pub does : Does r l (effect r l) (touchIn r l)

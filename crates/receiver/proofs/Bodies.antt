@@ -3,7 +3,7 @@
 use Prim.Native.Nat.{ℕ, _/_, _≤_}
 use mathlib.Core.Path.{_≡_, refl, sym, ap, _∙_}
 use mathlib.Core.Bool.{Bool, true, false, cond}
-use mathlib.Core.List.{List, []}
+use mathlib.Core.List.{List, [], _∷_}
 use native.Mathlib.Omega.{arith}
 use borrow.Author.Tests.{ne-eqb, eqb-true, leb-true, leb-false}
 use lib.Dec.{eqb, leb}
@@ -15,7 +15,7 @@ use Rattle.slices.proofs.Laws.{given-room, given-none}
 use Rattle.formats.specs.Format.{got, bad, whole, byte}
 use Rattle.house.specs.Fields.{recordBytes}
 use Rattle.messages.specs.Header.{headed, clientReady, touch, dismiss, headerBytes}
-use Rattle.messages.specs.Answer.{either, headerGot, dismissGot, readyGot}
+use Rattle.messages.specs.Answer.{headerGot, dismissGot, readyGot}
 use Rattle.messages.specs.Bodies.{ready}
 use Rattle.messages.specs.declared.Header.{Header}
 use Rattle.messages.specs.declared.Header.the-variants as head
@@ -24,7 +24,7 @@ use Rattle.messages.specs.declared.ReadReady.the-variants as read
 use Rattle.messages.specs.declared.ReadDismiss.{ReadDismiss}
 use Rattle.messages.specs.declared.ReadDismiss.the-variants as id
 use Rattle.messages.specs.declared.Ready.{Ready}
-use Rattle.messages.proofs.Laws.{headed-same, headed-got}
+use Rattle.messages.proofs.Laws.{headed-same, headed-got, one-of-one, one-of-later}
 use Rattle.contacts.specs.Table.{Table}
 use Rattle.contacts.specs.Machine.{dismissBytes}
 use Rattle.moves.specs.Moves.{dismissedIn, Dismisses}
@@ -37,14 +37,14 @@ use Rattle.receiver.proofs.Answering.{gives-refused, gives-none, gives-
 -- ---- by the header
 
 -- a header that is taken is there
-pub header-long : (taken : ℕ → Bool) (l : List ℕ) (h : Header) → headerGot h l ≡ headed taken l → (e : ℕ) → h ≡ head.Event e → headerBytes ≤ length l
-header-long taken l h g e q = headed-got taken l e (drop headerBytes l) (sym g ∙ ap (λ (k : Header). headerGot k l) q) .low
+pub header-long : (events l : List ℕ) (h : Header) → headerGot h l ≡ headed events l → (e : ℕ) → h ≡ head.Event e → headerBytes ≤ length l
+header-long events l h g e q = headed-got events l e (drop headerBytes l) (sym g ∙ ap (λ (k : Header). headerGot k l) q) .low
 
 module _ (r : Receiver) (l : List ℕ) (h : Header) where
   -- an unready receiver takes client ready alone
-  module _ (o : off (r .ready) ≡ true) (g : headerGot h l ≡ headed (either clientReady clientReady) l) where
+  module _ (o : off (r .ready) ≡ true) (g : headerGot h l ≡ headed (clientReady ∷ clientReady ∷ []) l) where
     unready : headed (takes r) l ≡ headerGot h l
-    unready = ap (λ (b : Bool). headed (λ e. cond b (eqb e clientReady) (cond (eqb e touch) true (eqb e dismiss))) l) o ∙ sym (headed-same clientReady l) ∙ sym g
+    unready = ap (λ (b : Bool). headed (cond b (clientReady ∷ []) (touch ∷ dismiss ∷ [])) l) o ∙ sym (headed-same clientReady l) ∙ sym g
 
     pub unready-refused : (n : ℕ) → h ≡ head.Refused n → effect r l ≡ bad n
     unfolding effect
@@ -53,30 +53,30 @@ module _ (r : Receiver) (l : List ℕ) (h : Header) where
     pub unready-event : (e : ℕ) → h ≡ head.Event e → effect r l ≡ readyEffect r (drop headerBytes l)
     unfolding effect
     unready-event e q =
-        let w : headed (λ x. eqb x clientReady) l ≡ got e (drop headerBytes l) = sym (headed-same clientReady l) ∙ sym g ∙ ap (λ (k : Header). headerGot k l) q in
-        let z = headed-got (λ x. eqb x clientReady) l e (drop headerBytes l) w .takes in
+        let w : headed (clientReady ∷ []) l ≡ got e (drop headerBytes l) = sym (headed-same clientReady l) ∙ sym g ∙ ap (λ (k : Header). headerGot k l) q in
+        let z = sym (one-of-one clientReady e) ∙ headed-got (clientReady ∷ []) l e (drop headerBytes l) w .takes in
         rw (unready, q, z)
 
   -- a ready one takes touch and dismiss
-  module _ (o : off (r .ready) ≡ false) (g : headerGot h l ≡ headed (either touch dismiss) l) where
-    taken : headed (takes r) l ≡ headerGot h l
-    taken = ap (λ (b : Bool). headed (λ e. cond b (eqb e clientReady) (cond (eqb e touch) true (eqb e dismiss))) l) o ∙ sym g
+  module _ (o : off (r .ready) ≡ false) (g : headerGot h l ≡ headed (touch ∷ dismiss ∷ []) l) where
+    running : headed (takes r) l ≡ headerGot h l
+    running = ap (λ (b : Bool). headed (cond b (clientReady ∷ []) (touch ∷ dismiss ∷ [])) l) o ∙ sym g
 
     pub ready-refused : (n : ℕ) → h ≡ head.Refused n → effect r l ≡ bad n
     unfolding effect
-    ready-refused n e = rw (taken, e)
+    ready-refused n e = rw (running, e)
 
     pub ready-touch : (e : ℕ) → h ≡ head.Event e → e ≡ touch → effect r l ≡ touchEffect r (drop headerBytes l)
     unfolding effect
-    ready-touch e q t = rw (taken, q, t)
+    ready-touch e q t = rw (running, q, t)
 
     pub ready-dismiss : (e : ℕ) → h ≡ head.Event e → (e ≡ touch → ⊥) → effect r l ≡ dismissEffect r (drop headerBytes l)
     unfolding effect
     ready-dismiss e q t =
-        let w = headed-got (either touch dismiss) l e (drop headerBytes l) (sym g ∙ ap (λ (k : Header). headerGot k l) q) .takes in
-        let z : eqb e dismiss ≡ true = rw (ne-eqb e touch t) at w in
+        let w = headed-got (touch ∷ dismiss ∷ []) l e (drop headerBytes l) (sym g ∙ ap (λ (k : Header). headerGot k l) q) .takes in
+        let z : eqb e dismiss ≡ true = sym (one-of-later touch (dismiss ∷ []) e (ne-eqb e touch t) ∙ one-of-one dismiss e) ∙ w in
         let d : e ≡ dismiss = eqb-true e dismiss z in
-        rw (taken, q, d)
+        rw (running, q, d)
 
 -- ---- client ready
 

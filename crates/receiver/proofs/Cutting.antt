@@ -16,9 +16,9 @@ use Rattle.formats.specs.Format.{Got, got, bad, andThen, Each, writeSeries}
 use Rattle.formats.proofs.Laws.{never, whole-sound, whole-exact}
 use Rattle.integers.specs.Integer.{formed, fewest, writing}
 use Rattle.fields.specs.Integers.{strict}
-use Rattle.messages.specs.Header.{headerBytes, mostBytes, headed, touch}
+use Rattle.messages.specs.Header.{headerBytes, mostBytes, oneOf, headed, touch, dismiss}
 use Rattle.messages.specs.declared.Ready.{Ready}
-use Rattle.messages.proofs.Laws.{headed-got, headed-good, message-back, message-got}
+use Rattle.messages.proofs.Laws.{one-of-first, headed-got, headed-good, message-back, message-got}
 use Rattle.house.specs.declared.Contact.{Contact}
 use Rattle.framing.specs.Frame.{Frame}
 use Rattle.touch.specs.Touch.{Touch, offset, frameHead, frame, touchHead, body}
@@ -118,9 +118,9 @@ unjudged s = go (untimed (rested s))
     go true = refl
     go false = refl
 
-takes-touch : (s : Ready) → takes (rested s) touch ≡ true
+takes-touch : (s : Ready) → oneOf (takes (rested s)) touch ≡ true
 unfolding rested
-takes-touch s = refl
+takes-touch s = one-of-first touch (dismiss ∷ []) touch refl
 
 pub rested-reads : (s : Ready) (m : Touch) → format.touch strict false .Holds m → headerBytes + length (format.touch strict false .write m) ≤ mostBytes → touchIn (rested s) (messageOf m) ≡ got m []
 unfolding touchIn

@@ -15,7 +15,7 @@ use Rattle.integers.specs.Integer as integers
 use Rattle.fields.specs.Integers.{Shape, gotBy, integer, unsigned, signed, strict}
 use Rattle.house.specs.WellFormed.{has}
 use Rattle.house.specs.Fits.{noSides}
-use Rattle.messages.specs.Header.{headed, clientReady, touch, headerBytes, mostBytes, eventOf, lengthOf}
+use Rattle.messages.specs.Header.{headed, clientReady, touch, headerBytes, mostBytes, eventOf, pduLength, oneOf}
 use Rattle.messages.specs.Bodies.{ready, readyFlags, version}
 use Rattle.house.specs.declared.Contact.{Contact}
 use Rattle.framing.specs.Frame.{Frame, headOf}
@@ -220,13 +220,13 @@ ready-tame =
     field-tame _ (λ r. r .most) _ (little-tame 2) λ m.
     done-tame _
 
-pub headed-tame : (taken : ℕ → Bool) (l : List ℕ) → Tame (headed taken l)
+pub headed-tame : (events l : List ℕ) → Tame (headed events l)
 unfolding headed
-headed-tame taken l =
+headed-tame events l =
     by-test (ltb (length l) headerBytes) (bad short) _ (num short tt tt)
     (by-test (ltb mostBytes (length l)) (bad tooLong) _ (num tooLong tt tt)
-    (by-test (taken (eventOf l)) _ (bad unexpected)
-    (by-test (eqb (lengthOf l) (length l)) (got (eventOf l) (drop headerBytes l)) (bad badLength) tt (num badLength tt tt))
+    (by-test (oneOf events (eventOf l)) _ (bad unexpected)
+    (by-test (eqb (pduLength l) (length l)) (got (eventOf l) (drop headerBytes l)) (bad badLength) tt (num badLength tt tt))
     (num unexpected tt tt)))
 
 pub effect-tame : (r : Receiver) (l : List ℕ) → Tame (effect r l)

@@ -108,8 +108,8 @@ abbrev pub dismissedBy : Receiver → ℕ → Effect
 dismissedBy r id = quiet (withTable r (dismissTable (machineOf r .table) id)) (dismissBytes (machineOf r .table) id)
 
 -- "The receiver takes event 2 until it accepts one, then only 3 and 6."
-abbrev pub takes : Receiver → ℕ → Bool
-takes r e = cond (off (r .ready)) (eqb e clientReady) (cond (eqb e touch) true (eqb e dismiss))
+abbrev pub takes : Receiver → List ℕ
+takes r = cond (off (r .ready)) (clientReady ∷ []) (touch ∷ dismiss ∷ [])
 
 abbrev pub bodyEffect : Receiver → ℕ → List ℕ → Got Effect
 bodyEffect r e b =

@@ -1,21 +1,21 @@
 -- `messages::head::read_header` meets its contract: each return is one of the checks 1 to 4, in their order.
 -- Assumes nothing.
 use mathlib.Core.Path.{_≡_, sym, _∙_}
+use mathlib.Core.List.{[], _∷_}
 use native.Mathlib.Omega.{arith}
 use denote.Ref.{now}
 use borrow.Author.Tests.{ne-eqb, not-true, not-false}
-use Rattle.messages.specs.Header.{eventOf, lengthOf}
-use Rattle.messages.specs.Answer.{either}
+use Rattle.messages.specs.Header.{eventOf, pduLength, oneOf}
 use Rattle.messages.proofs.Laws.{headed-short, headed-long, headed-event, headed-length, headed-good, length-tail}
 use borrow.Author.Needs.{needs}
 use Rattle.messages.proofs.head.read_header.Statement.{statement}
 use Rattle.messages.proofs.head.read_header.Tie as tie
 
 -- the two fields, as the header's definition has them
-event : (c : tie.After-is-either) → let a = c .before .before .before .before .before .args in either (a .first) (a .second) (eventOf (now (a .message))) ≡ c .is-either .result
+event : (c : tie.After-is-either) → let a = c .before .before .before .before .before .args in oneOf (a .first ∷ a .second ∷ []) (eventOf (now (a .message))) ≡ c .is-either .result
 event c = rw (c .before .two .ensures) at (sym (c .is-either .ensures))
 
-long : (c : tie.After-four) → lengthOf (now (c .before .before .before .before .before .before .before .before .args .message)) ≡ c .four .result
+long : (c : tie.After-four) → pduLength (now (c .before .before .before .before .before .before .before .before .args .message)) ≡ c .four .result
 long c = length-tail (now (c .before .before .before .before .before .before .before .before .args .message)) _ (c .four .ensures)
 
 returns : tie.Need-returns

@@ -14,10 +14,10 @@ use borrow.Author.Needs.{needs}
 use Rattle.messages.proofs.write.write_client_ready.Statement.{statement}
 use Rattle.messages.proofs.write.write_client_ready.Tie as tie
 
-flags : (c : tie.Else1) → flagsListed (c .before .before .before .args .ready .flags) ≡ true
+flags : (c : tie.Else1) → flagsListed (c .before .before .before .args .settings .flags) ≡ true
 flags c = lt-ltb _ _ (c .if1 .left)
 
-listed : (c : tie.Else2) → versionListed (c .before .before .before .before .before .args .ready .version) ≡ true
+listed : (c : tie.Else2) → versionListed (c .before .before .before .before .before .args .settings .version) ≡ true
 listed c = sym (c .before .is-version .ensures) ∙ not-false (c .before .is-version .result) (c .if2 .left)
 
 -- the header leaves room for the body
@@ -41,7 +41,7 @@ returns-2 : tie.Need-returns-2
 returns-2 c =
     let k = c .before .before in
     let no = sym (k .is-version .ensures) ∙ not-true (k .is-version .result) (c .before .if2 .taken) in
-    rw (client-version (k .before .before .before .before .args .ready) (flags (k .before)) no) (writes-refuse badField _ _ _ (c .refused2 .ensures) refl)
+    rw (client-version (k .before .before .before .before .args .settings) (flags (k .before)) no) (writes-refuse badField _ _ _ (c .refused2 .ensures) refl)
 
 refused-requires-3 : tie.Need-refused-requires-3
 refused-requires-3 c κs = search needs
@@ -50,7 +50,7 @@ returns-3 : tie.Need-returns-3
 unfolding ready writeLittle
 returns-3 c =
     let e = c .before .before in
-    rw (client-draft (e .before .before .before .before .before .args .ready) (flags (e .before .before)) (listed e)) (message-none clientReady ready _ _ _ (c .before .if3 .taken) (c .refused3 .ensures))
+    rw (client-draft (e .before .before .before .before .before .args .settings) (flags (e .before .before)) (listed e)) (message-none clientReady ready _ _ _ (c .before .if3 .taken) (c .refused3 .ensures))
 
 cast-put-header : tie.Need-cast-put-header
 cast-put-header c = search needs
@@ -85,7 +85,7 @@ unfolding ready writeLittle
 returns-4 c =
     let h = c .before .before .before .before .before .before .before in
     let e = h .before .before .before in
-    rw (client-draft (e .before .before .before .before .before .args .ready) (flags (e .before .before)) (listed e))
+    rw (client-draft (e .before .before .before .before .before .args .settings) (flags (e .before .before)) (listed e))
     (message-writes clientReady ready _ _ _ _ _ _ _ (h .put-header .ensures) (c .before .before .before .put-ready .ensures) (omega arith) (c .written .ensures))
 
 pub write-client-ready-spec : {M : Type 1} → statement M

@@ -17,7 +17,7 @@ use Rattle.formats.proofs.Laws.{Law, never, little-exact, whole-back, whole-exa
 use Rattle.formats.proofs.Steps.{tail}
 use Rattle.formats.proofs.Order.{Ordered, done-ordered, field-ordered, such-ordered, byte-ordered, little-ordered}
 use Rattle.messages.specs.Header.{headerBytes, mostBytes, eventOf, pduLength, oneOf, headed, readMessage, header, writeMessage}
-use Rattle.messages.specs.Bodies.{version, versionListed, readyFlags, flagsListed, ready, nothing}
+use Rattle.messages.specs.Bodies.{version, versionListed, readyFlags, flagsListed, readyBy, ready, nothing}
 use Rattle.messages.specs.Answer.{headerGot}
 use Rattle.messages.specs.declared.Header.{Header}
 use Rattle.messages.specs.declared.Header.the-variants as head
@@ -101,16 +101,6 @@ headed-got events l e b h = go (ltb (length l) headerBytes) refl (ltb mostBytes 
         let z : eventOf l ≡ e = cc in
         let y : drop headerBytes l ≡ b = cc in
         record { low = ltb-false _ _ ep; high = ltb-false _ _ eq; takes = ap (oneOf events) (sym z) ∙ er; event = z; long = eqb-true _ _ es; body = y }
-
--- whatever else was taken: the message is one of its own event
-pub headed-one : (events : List ℕ) (l : List ℕ) (e : ℕ) (b : List ℕ) → headed events l ≡ got e b → headed (e ∷ []) l ≡ got e b
-headed-one events l e b h =
-    let k = headed-got events l e b h in
-    headed-good (e ∷ []) l (k .low) (k .high) (one-of-first e [] _ (k .event)) (k .long) ∙ λ i. got (k .event i) (k .body i)
-
-pub message-of : {A : Type 0} (f : Format A) (events : List ℕ) (l : List ℕ) (e : ℕ) (b : List ℕ) → headed events l ≡ got e b → readMessage e f l ≡ whole f trailing b
-unfolding readMessage
-message-of f events l e b h = rw (headed-one events l e b h)
 
 -- one event, named twice
 pub headed-same : (e : ℕ) (l : List ℕ) → headed (e ∷ e ∷ []) l ≡ headed (e ∷ []) l
@@ -219,13 +209,17 @@ module _ {X : Type 0} where
   pub flags-law : Law X readyFlags
   flags-law = such-law (little 4) flagsListed badField (little-law 4)
 
-  pub ready-law : Law X ready
-  unfolding ready
-  ready-law =
+  -- whichever versions are taken
+  pub ready-by-law : (declared : Format ℕ) → Law X declared → Law X (readyBy declared)
+  unfolding readyBy
+  ready-by-law declared law =
       field-law _ _ _ flags-law (λ f r h. ap (λ (x : Ready). x .flags) (h .1 .1)) λ f.
-      field-law _ _ _ version-law (λ v r h. ap (λ (x : Ready). x .version) (h .1)) λ v.
+      field-law _ _ _ law (λ v r h. ap (λ (x : Ready). x .version) (h .1)) λ v.
       field-law _ _ _ (little-law 2) (λ m r h. ap (λ (x : Ready). x .most) h) λ m.
       done-law _
+
+  pub ready-law : Law X ready
+  ready-law = ready-by-law version version-law
 
   pub nothing-law : Law X nothing
   nothing-law = done-law tt
@@ -237,13 +231,16 @@ module _ {X : Type 0} where
 pub version-ordered : Ordered version
 version-ordered = such-ordered (little 4) versionListed badField (little-ordered 4)
 
-pub ready-ordered : Ordered ready
-unfolding ready
-ready-ordered =
+pub ready-by-ordered : (declared : Format ℕ) → Ordered declared → Ordered (readyBy declared)
+unfolding readyBy
+ready-by-ordered declared ordered =
     field-ordered _ _ _ (such-ordered (little 4) flagsListed badField (little-ordered 4)) λ f.
-    field-ordered _ (λ (r : Ready). r .version) _ version-ordered λ v.
+    field-ordered _ (λ (r : Ready). r .version) _ ordered λ v.
     field-ordered _ (λ (r : Ready). r .most) _ (little-ordered 2) λ m.
     done-ordered _
+
+pub ready-ordered : Ordered ready
+ready-ordered = ready-by-ordered version version-ordered
 
 pub nothing-ordered : Ordered nothing
 nothing-ordered = done-ordered tt

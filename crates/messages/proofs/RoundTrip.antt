@@ -13,7 +13,7 @@ use Rattle.slices.specs.Writing.{Draft, bytes, refuse}
 use Rattle.formats.specs.Format.{got, Format, byte, writeLittle}
 use Rattle.formats.proofs.Laws.{Law}
 use Rattle.messages.specs.Header.{headerBytes, mostBytes, serverReady, clientReady, suspend, resume, dismiss, readMessage, writeMessage}
-use Rattle.messages.specs.Bodies.{version, versionListed, flagsListed, ready, nothing, serverReadyDraft, clientReadyDraft, suspendDraft, resumeDraft, dismissDraft}
+use Rattle.messages.specs.Bodies.{version, versionListed, flagsListed, readyBy, ready, nothing, serverReadyDraft, clientReadyDraft, suspendDraft, resumeDraft, dismissDraft}
 use Rattle.messages.specs.declared.Ready.{Ready}
 use Rattle.messages.proofs.Laws.{message-back, message-exact, message-sound, version-law, ready-law, nothing-law, dismiss-law}
 use Rattle.messages.proofs.Writing.{server-draft, client-draft}
@@ -74,7 +74,7 @@ server-drawn =
     }
 
 client-drawn : Drawn clientReady ready clientReadyDraft FitReady
-unfolding clientReadyDraft ready writeLittle
+unfolding clientReadyDraft readyBy writeLittle
 client-drawn =
     record {
       long = λ r. lit≤ tt;

@@ -28,12 +28,16 @@ version = such (little 4) versionListed badField
 abbrev pub readyFlags : Format ℕ
 readyFlags = such (little 4) flagsListed badField
 
-unfoldable pub ready : Format Ready
-ready =
+-- client ready, over the format of its version field
+unfoldable pub readyBy : Format ℕ → Format Ready
+readyBy declared =
     field readyFlags (λ r. r .flags) λ f.
-    field version (λ r. r .version) λ v.
+    field declared (λ r. r .version) λ v.
     field (little 2) (λ r. r .most) λ m.
     done (record { flags = f; version = v; most = m })
+
+abbrev pub ready : Format Ready
+ready = readyBy version
 
 abbrev pub nothing : Format (Unit {0})
 nothing = done tt

@@ -16,7 +16,7 @@ use Rattle.fields.specs.Integers.{Shape, gotBy, integer, unsigned, signed, stri
 use Rattle.house.specs.WellFormed.{has}
 use Rattle.house.specs.Fits.{noSides}
 use Rattle.messages.specs.Header.{headed, clientReady, touch, headerBytes, mostBytes, eventOf, pduLength, oneOf}
-use Rattle.messages.specs.Bodies.{ready, readyFlags, version}
+use Rattle.messages.specs.Bodies.{readyBy, ready, readyFlags, version}
 use Rattle.house.specs.declared.Contact.{Contact}
 use Rattle.framing.specs.Frame.{Frame, headOf}
 use Rattle.touch.specs.Touch.{optionalOf, touchHeadOf, present, point, flags, sides, orientation, pressure, optional, contact, contactCount, offset, frameHead, frame, frameCount, touchHead, body}
@@ -213,7 +213,7 @@ touch-tame b =
 -- ---- the other messages, and the header
 
 ready-tame : Tamed ready
-unfolding ready
+unfolding readyBy
 ready-tame =
     field-tame readyFlags (λ r. r .flags) _ (such-tame _ _ _ (num badField tt tt) (little-tame 4)) λ f.
     field-tame version (λ r. r .version) _ (such-tame _ _ _ (num badField tt tt) (little-tame 4)) λ v.

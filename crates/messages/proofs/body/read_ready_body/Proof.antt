@@ -8,7 +8,7 @@ use lib.ListN.{drop}
 use Rattle.paper.specs.Refusals.{trailing}
 use Rattle.formats.specs.Format.{got, little}
 use Rattle.formats.proofs.Steps.{step, stop, Stepped}
-use Rattle.messages.specs.Bodies.{readyFlags, version, ready}
+use Rattle.messages.specs.Bodies.{readyFlags, version, readyBy, ready}
 use Rattle.messages.proofs.Fields.{whole-refused, whole-more, whole-done}
 use borrow.Author.Needs.{needs}
 use Rattle.messages.proofs.body.read_ready_body.Statement.{statement}
@@ -38,7 +38,7 @@ most-read c =
     step (little 2) (body (up2 (up3 c))) 8 2 _ (version-read (up3 c) .ends) (rw (c .before .third .given .1) at (c .before .before .before .read-two .ensures))
 
 all-read : (c : tie.After-known-told3) → ready .read (body (up2 (up3 c))) ≡ got (record { flags = up2 (up3 c) .before .first .given .0 .0; version = up3 c .before .second .given .0 .0; most = c .before .third .given .0 .0 }) (drop 10 (body (up2 (up3 c))))
-unfolding ready
+unfolding readyBy
 all-read c = rw (flags-read (up2 (up3 c)) .reads, version-read (up3 c) .reads, most-read c .reads)
 
 read-flags-requires : tie.Need-read-flags-requires
@@ -54,7 +54,7 @@ four-fault-requires : tie.Need-four-fault-requires
 four-fault-requires c κs = search needs
 
 returns : tie.Need-returns
-unfolding ready
+unfolding readyBy
 returns c =
     let t = c .before .enum-told .given .1 in
     let w = rw t at (c .before .before .before .read-flags .ensures) in
@@ -82,7 +82,7 @@ four-fault-requires-2 : tie.Need-four-fault-requires-2
 four-fault-requires-2 c κs = search needs
 
 returns-2 : tie.Need-returns-2
-unfolding ready
+unfolding readyBy
 returns-2 c =
     let k = c .before .before .before .before .before in
     let t = c .before .enum-told2 .given .1 in
@@ -111,7 +111,7 @@ two-fault-requires : tie.Need-two-fault-requires
 two-fault-requires c κs = search needs
 
 returns-3 : tie.Need-returns-3
-unfolding ready
+unfolding readyBy
 returns-3 c =
     let k = c .before .before .before .before .before in
     let t = c .before .enum-told3 .given .1 in

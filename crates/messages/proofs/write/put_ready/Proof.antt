@@ -9,7 +9,7 @@ use lib.ListN.{length}
 use Prim.Native.Nat.{_-_}
 use denote.Ref.{now}
 use Rattle.messages.specs.Answer.{Put}
-use Rattle.messages.specs.Bodies.{ready}
+use Rattle.messages.specs.Bodies.{readyBy, ready}
 use Rattle.messages.proofs.Writing.{put-next, Room, room}
 use borrow.Author.Needs.{needs}
 use Rattle.messages.proofs.write.put_ready.Statement.{statement}
@@ -71,7 +71,7 @@ same-length : tie.Need-same-length
 same-length c = search needs
 
 returns : tie.Need-returns
-unfolding ready writeLittle
+unfolding readyBy writeLittle
 returns c = put-next _ _ _ _ _ _ _ (two (c .before .before .before .before)) (c .before .before .put-two .ensures) (omega arith)
 
 pub put-ready-spec : {M : Type 1} → statement M

@@ -8,7 +8,7 @@ use borrow.Author.Tests.{lt-ltb, le-ltb, not-true, not-false}
 use Rattle.paper.specs.Refusals.{badField}
 use Rattle.slices.proofs.Laws.{writes-refuse}
 use Rattle.messages.specs.Header.{clientReady}
-use Rattle.messages.specs.Bodies.{ready, versionListed, flagsListed}
+use Rattle.messages.specs.Bodies.{readyBy, ready, versionListed, flagsListed}
 use Rattle.messages.proofs.Writing.{Room, room, message-writes, message-none, client-draft, client-flags, client-version}
 use borrow.Author.Needs.{needs}
 use Rattle.messages.proofs.write.write_client_ready.Statement.{statement}
@@ -47,7 +47,7 @@ refused-requires-3 : tie.Need-refused-requires-3
 refused-requires-3 c κs = search needs
 
 returns-3 : tie.Need-returns-3
-unfolding ready writeLittle
+unfolding readyBy writeLittle
 returns-3 c =
     let e = c .before .before in
     rw (client-draft (e .before .before .before .before .before .args .settings) (flags (e .before .before)) (listed e)) (message-none clientReady ready _ _ _ (c .before .if3 .taken) (c .refused3 .ensures))
@@ -71,7 +71,7 @@ put-ready-requires : tie.Need-put-ready-requires
 put-ready-requires c κs = after (c .before) .next
 
 add-written : tie.Need-add-written
-unfolding ready writeLittle
+unfolding readyBy writeLittle
 add-written c = omega (arith, c .before .before .put-ready .ensures .count, c .before .before .before .before .before .before .put-header .ensures .count)
 
 written-requires : tie.Need-written-requires
@@ -81,7 +81,7 @@ same-length : tie.Need-same-length
 same-length c = search needs
 
 returns-4 : tie.Need-returns-4
-unfolding ready writeLittle
+unfolding readyBy writeLittle
 returns-4 c =
     let h = c .before .before .before .before .before .before .before in
     let e = h .before .before .before in

@@ -11,16 +11,19 @@ use lib.ListN.{length, getD}
 use Rattle.formats.specs.Format.{Got, got, bad}
 use Rattle.states.specs.Table.{out, next}
 use Rattle.house.specs.declared.Contact.{Contact}
-use Rattle.contacts.specs.Table.{contacts, resting, stateAt, placeAt, active, one, countActive}
-use Rattle.contacts.specs.Conforms.{Rules, every, distinct, after, conforms}
-use Rattle.contacts.specs.Machine.{Machine, opening, Verdict, injected, ignored, cancelled, verdict}
-use Rattle.contacts.specs.Ruling.{ofRead, tableOf, rulesOf, legalIn, staysIn, allowedIn, came, gone, unlawful, surveyed, Counts, Counted, judgedAs, refused, judgedOf, rulingAs, rulingOf, unread}
+use Rattle.machine.specs.Table.{contacts, resting, stateAt, placeAt, active, one, countActive}
+use Rattle.machine.specs.Rules.{Rules}
+use Rattle.machine.specs.Conforms.{every, distinct, tableAfter, conforms}
+use Rattle.machine.specs.Machine.{Machine, opening, Verdict, injected, ignored, cancelled, verdict}
+use Rattle.contacts.specs.Touch.{touchView, touchRules}
+use Rattle.contacts.specs.Ruling.{ofRead, tableFrom, legalIn, staysIn, allowedIn, came, gone, unlawful, surveyed, CountsActive, Counted, judgedAs, refused, judgedOf, rulingAs, rulingOf, unread}
 use Rattle.contacts.specs.declared.Survey.{Survey}
 use Rattle.contacts.specs.declared.Judged.{Judged}
 use Rattle.contacts.specs.declared.Ruling.{Ruling}
 use Rattle.contacts.specs.declared.Ruling.the-variants as Ruling
-use Rattle.contacts.proofs.Conforms.{inTable, both-left, every-both, after-whole, after-count}
-use Rattle.contacts.proofs.Table.{Whole, resting-whole, resting-count, count-all}
+use Rattle.machine.proofs.Conforms.{inTable, both-left, every-both, every-true}
+use Rattle.contacts.proofs.Counting.{after-count}
+use Rattle.machine.proofs.Table.{resting-whole, resting-count, count-all}
 
 -- one contact more, counted
 module _ (states : List ℕ) (a r : ℕ) (c : Contact) where
@@ -35,11 +38,11 @@ module _ (states : List ℕ) (a r : ℕ) (c : Contact) where
 never : {P : Type 0} → true ≡ false → P
 never e = absurd (let z : _≡_ {A = ℕ} 0 1 = cc in omega arith)
 
--- three tests and a fourth, the second and the third together or one after the other
-nest : (d l s f : Bool) → cond d (cond l (cond s f false) false) false ≡ cond (cond d (cond l s false) false) f false
-nest true true s f = refl
-nest true false s f = refl
-nest false l s f = refl
+-- three tests and a fifth, where the fourth passes: the second and the third together or one after the other
+nest : (d l s p f : Bool) → p ≡ true → cond d (cond l (cond s (cond p f false) false) false) false ≡ cond (cond d (cond l s false) false) f false
+nest true true s p f h = rw h
+nest true false s p f h = refl
+nest false l s p f h = refl
 
 -- what a judgement says of the number that it was made of
 module _ (b : Bool) (k : ℕ) (j : Judged) (e : j ≡ cond b (record { conforms = true; active = k }) refused) where
@@ -57,17 +60,17 @@ module _ (b : Bool) (k : ℕ) (j : Judged) (e : j ≡ cond b (record { conforms 
 
 module _ (most : ℕ) (states : List ℕ) (xs ys : List ℤ) where
   abbrev judged : List Contact → Judged
-  judged = judgedOf (rulesOf most) (tableOf states xs ys)
+  judged = judgedOf (touchRules most) (tableFrom states xs ys)
 
   -- the two rules of single contacts, each by itself
   allowed : (cs : List Contact) → every (allowedIn states xs ys) cs ≡ cond (every (legalIn states) cs) (every (staysIn xs ys) cs) false
   allowed cs = every-both (allowedIn states xs ys) (legalIn states) (staysIn xs ys) (λ c. refl) cs
 
   -- conforming, where the pass finds nothing and the count decides
-  conforming : (cs : List Contact) → conforms (rulesOf most) (tableOf states xs ys) cs
-      ≡ cond (cond (distinct cs) (every (allowedIn states xs ys) cs) false) (leb (countActive (after (rulesOf most) (tableOf states xs ys) cs .states)) most) false
+  conforming : (cs : List Contact) → conforms touchView (touchRules most) (tableFrom states xs ys) cs
+      ≡ cond (cond (distinct touchView cs) (every (allowedIn states xs ys) cs) false) (leb (countActive (tableAfter touchView next (tableFrom states xs ys) cs .states)) most) false
   unfolding conforms stateAt placeAt
-  conforming cs = rw (allowed cs) (nest (distinct cs) (every (legalIn states) cs) (every (staysIn xs ys) cs) _)
+  conforming cs = rw (allowed cs) (nest (distinct touchView cs) (every (legalIn states) cs) (every (staysIn xs ys) cs) (every (λ (c : Contact). true) cs) _ (every-true cs))
 
   -- what the pass says by its mark
   lawful-is : (d : Bool) (k j : ℕ) (v : Survey) → v ≡ cond d (record { lawful = true; came = k; gone = j }) unlawful → v .lawful ≡ d
@@ -76,7 +79,7 @@ module _ (most : ℕ) (states : List ℕ) (xs ys : List ℤ) where
 
   pub breaks : (x : Got (List Contact)) (v : Survey) → v ≡ ofRead unlawful (surveyed states xs ys) x → v .lawful ≡ false → refused ≡ ofRead refused judged x
   unfolding judgedOf surveyed
-  breaks (got cs t) v e h = rw (conforming cs, sym (lawful-is (cond (distinct cs) (every (allowedIn states xs ys) cs) false) _ _ v e) ∙ h)
+  breaks (got cs t) v e h = rw (conforming cs, sym (lawful-is (cond (distinct touchView cs) (every (allowedIn states xs ys) cs) false) _ _ v e) ∙ h)
   breaks (bad e) v ev h = refl
 
   -- what the count of active contacts decides: k before the frame, and v what the pass found
@@ -85,26 +88,26 @@ module _ (most : ℕ) (states : List ℕ) (xs ys : List ℤ) where
     pub same : judgedAs most (k + v .came - v .gone) ≡ ofRead refused judged x
 
   pub decided : (x : Got (List Contact)) (k : ℕ) (v : Survey) → v ≡ ofRead unlawful (surveyed states xs ys) x → v .lawful ≡ true
-      → ofRead true (every inTable) x ≡ true → Counted k states → Decided x k v
+      → ofRead true (every (inTable touchView)) x ≡ true → Counted k states → Decided x k v
   unfolding judgedOf surveyed
   decided (got cs t) k v e h i q =
-      let b = cond (distinct cs) (every (allowedIn states xs ys) cs) false in
+      let b = cond (distinct touchView cs) (every (allowedIn states xs ys) cs) false in
       let w : b ≡ true = sym (lawful-is b _ _ v e) ∙ h in
       let f : v ≡ record { lawful = true; came = came next states cs; gone = gone states cs } = rw w at e in
-      let n = after-count (rulesOf most) (tableOf states xs ys) cs (both-left (distinct cs) _ w) i (q .all) in
+      let n = after-count next (tableFrom states xs ys) cs (both-left (distinct touchView cs) _ w) i (q .all) in
       let ec : v .came ≡ came next states cs = ap (λ (i : Survey). i .came) f in
       let eg : v .gone ≡ gone states cs = ap (λ (i : Survey). i .gone) f in
-      let m : k + v .came - v .gone ≡ countActive (after (rulesOf most) (tableOf states xs ys) cs .states) = omega (arith, n, ec, eg, q .same) in
+      let m : k + v .came - v .gone ≡ countActive (tableAfter touchView next (tableFrom states xs ys) cs .states) = omega (arith, n, ec, eg, q .same) in
       record { fits = omega (arith, n, ec, eg, q .same); same = rw (m, conforming cs, w) }
   decided (bad x) k v e h i q = never (sym h ∙ ap (λ (i : Survey). i .lawful) e)
 
   -- ---- the ruling, where o is whether the frame is judged
 
   abbrev ruling : Bool → Got (List Contact) → Ruling
-  ruling running = ofRead (unread running) (rulingOf (rulesOf most) (record { table = tableOf states xs ys; running = running }))
+  ruling running = ofRead (unread running) (rulingOf (touchRules most) (record { table = tableFrom states xs ys; running = running }))
 
   abbrev judges : Bool → Got (List Contact) → Bool
-  judges running x = cond running true (ofRead false opening x)
+  judges running x = cond running true (ofRead false (opening touchView) x)
 
   pub ignores : (running : Bool) (x : Got (List Contact)) (o : Bool) → o ≡ judges running x → o ≡ false → Ruling.Ignored ≡ ruling running x
   unfolding rulingOf verdict
@@ -117,50 +120,50 @@ module _ (most : ℕ) (states : List ℕ) (xs ys : List ℤ) where
   unfolding judgedOf rulingOf verdict
   injects running (bad x) o j eo ho e h = never (sym h ∙ ap (λ (i : Judged). i .conforms) e)
   injects running (got cs t) o j eo ho e h =
-      let b = conforms (rulesOf most) (tableOf states xs ys) cs in
-      let k = countActive (after (rulesOf most) (tableOf states xs ys) cs .states) in
+      let b = conforms touchView (touchRules most) (tableFrom states xs ys) cs in
+      let k = countActive (tableAfter touchView next (tableFrom states xs ys) cs .states) in
       let w = same-conforms b k j e ∙ h in
       rw (sym eo ∙ ho, w) (ap Ruling.Injected (same-active b k j e w))
 
   pub cancelling : (running : Bool) (x : Got (List Contact)) (o : Bool) (j : Judged) → o ≡ judges running x → o ≡ true → j ≡ ofRead refused judged x → j .conforms ≡ false
       → Ruling.Cancelled ≡ ruling running x
   unfolding judgedOf rulingOf verdict
-  cancelling running (got cs t) o j eo ho e h = rw (sym eo ∙ ho, same-conforms (conforms (rulesOf most) (tableOf states xs ys) cs) _ j e ∙ h)
+  cancelling running (got cs t) o j eo ho e h = rw (sym eo ∙ ho, same-conforms (conforms touchView (touchRules most) (tableFrom states xs ys) cs) _ j e ∙ h)
   cancelling true (bad x) o j eo ho e h = refl
   cancelling false (bad x) o j eo ho e h = never (sym ho ∙ eo)
 
 -- ---- what a caller learns of a ruling
 
-module _ (rules : Rules) (m : Machine) (cs : List Contact) where
+module _ (rules : Rules Contact) (m : Machine) (cs : List Contact) where
   abbrev then : ℕ
-  then = countActive (after rules (m .table) cs .states)
+  then = countActive (tableAfter touchView (rules .next) (m .table) cs .states)
 
   -- the number of active contacts after an injected frame
   pub record Injection (k : ℕ) : Type 0 where
-    pub verdict : verdict rules m cs ≡ injected
-    pub active : k ≡ countActive (after rules (m .table) cs .states)
+    pub verdict : verdict touchView rules m cs ≡ injected
+    pub active : k ≡ countActive (tableAfter touchView (rules .next) (m .table) cs .states)
 
   pub ruled-injected : (k : ℕ) → Ruling.Injected k ≡ rulingOf rules m cs → Injection k
   unfolding rulingOf
-  ruled-injected k e = go (verdict rules m cs) refl e
+  ruled-injected k e = go (verdict touchView rules m cs) refl e
     where
-      go : (v : Verdict) → verdict rules m cs ≡ v → Ruling.Injected k ≡ rulingAs v then → Injection k
+      go : (v : Verdict) → verdict touchView rules m cs ≡ v → Ruling.Injected k ≡ rulingAs v then → Injection k
       go injected w e = record { verdict = w; active = cc }
       go ignored w e = absurd (let z : _≡_ {A = ℕ} 0 1 = cc in omega arith)
       go cancelled w e = absurd (let z : _≡_ {A = ℕ} 0 1 = cc in omega arith)
 
-  pub ruled-ignored : Ruling.Ignored ≡ rulingOf rules m cs → verdict rules m cs ≡ ignored
+  pub ruled-ignored : Ruling.Ignored ≡ rulingOf rules m cs → verdict touchView rules m cs ≡ ignored
   unfolding rulingOf
-  ruled-ignored e = go (verdict rules m cs) e
+  ruled-ignored e = go (verdict touchView rules m cs) e
     where
       go : (v : Verdict) → Ruling.Ignored ≡ rulingAs v then → v ≡ ignored
       go injected e = absurd (let z : _≡_ {A = ℕ} 0 1 = cc in omega arith)
       go ignored e = refl
       go cancelled e = absurd (let z : _≡_ {A = ℕ} 0 1 = cc in omega arith)
 
-  pub ruled-cancelled : Ruling.Cancelled ≡ rulingOf rules m cs → verdict rules m cs ≡ cancelled
+  pub ruled-cancelled : Ruling.Cancelled ≡ rulingOf rules m cs → verdict touchView rules m cs ≡ cancelled
   unfolding rulingOf
-  ruled-cancelled e = go (verdict rules m cs) e
+  ruled-cancelled e = go (verdict touchView rules m cs) e
     where
       go : (v : Verdict) → Ruling.Cancelled ≡ rulingAs v then → v ≡ cancelled
       go injected e = absurd (let z : _≡_ {A = ℕ} 0 1 = cc in omega arith)
@@ -168,11 +171,8 @@ module _ (rules : Rules) (m : Machine) (cs : List Contact) where
       go cancelled e = refl
 
 -- the count that `count_active` answers, and the counts after frames, are the table's
-pub counted : (states : List ℕ) (r : ℕ) → length states ≡ contacts → Counts states r → Counted r states
+pub counted : (states : List ℕ) (r : ℕ) → length states ≡ contacts → CountsActive states r → Counted r states
 counted states r h c = record { all = h; same = c .same ∙ count-all states h }
-
-pub counted-injected : (rules : Rules) (m : Machine) (cs : List Contact) (k : ℕ) → Whole (m .table) → Ruling.Injected k ≡ rulingOf rules m cs → Counted k (after rules (m .table) cs .states)
-counted-injected rules m cs k w e = record { all = after-whole rules (m .table) cs w .states; same = ruled-injected rules m cs k e .active }
 
 pub counted-resting : Counted 0 (resting .states)
 counted-resting = record { all = resting-whole .states; same = sym resting-count }

@@ -1,7 +1,5 @@
--- Laws of the table of contacts, of frames that conform, and of what becomes of frames.
-pub mod Table
-pub mod Conforms
-pub mod Machine
+-- Laws of frames of touch contacts, as they are read, judged and counted.
+pub mod Counting
 pub mod Seen
 pub mod Reading
 pub mod Signed

@@ -17,11 +17,12 @@ use Rattle.fields.proofs.Laws.{strict-law}
 use Rattle.house.specs.declared.Contact.{Contact}
 use Rattle.touch.specs.Touch.{contact}
 use Rattle.touch.proofs.Laws.{contact-law}
-use Rattle.contacts.specs.Table.{contacts}
-use Rattle.contacts.specs.Conforms.{every}
-use Rattle.contacts.specs.Machine.{isDown, opening}
+use Rattle.machine.specs.Table.{contacts}
+use Rattle.machine.specs.Conforms.{every}
+use Rattle.machine.specs.Machine.{isDown, opening}
+use Rattle.contacts.specs.Touch.{touchView}
 use Rattle.contacts.specs.Ruling.{contactsOf, ofRead}
-use Rattle.contacts.proofs.Conforms.{inTable}
+use Rattle.machine.proofs.Conforms.{inTable}
 
 module _ {A : Type 0} (z : A) (f : List Contact → A) where
   pub read-end : (k : ℕ) (l : List ℕ) → k ≤ 0 → ofRead z f (contactsOf k l) ≡ f []
@@ -57,34 +58,34 @@ read-same z f g h (got cs t) = h cs
 read-same z f g h (bad e) = refl
 
 -- a frame of at least one contact is opening where each is down
-pub read-opening : (n : ℕ) (l : List ℕ) → 0 < n → ofRead false opening (contactsOf n l) ≡ ofRead false (every isDown) (contactsOf n l)
+pub read-opening : (n : ℕ) (l : List ℕ) → 0 < n → ofRead false (opening touchView) (contactsOf n l) ≡ ofRead false (every (isDown touchView)) (contactsOf n l)
 unfolding readSeries opening
 read-opening zero l h = absurd (omega arith)
 read-opening (suc n) l h = go (contact strict .read l)
   where
-    on : (c : Contact) (x : Got (List Contact)) → ofRead false opening (andThen x (λ cs u. got (c ∷ cs) u)) ≡ ofRead false (every isDown) (andThen x (λ cs u. got (c ∷ cs) u))
+    on : (c : Contact) (x : Got (List Contact)) → ofRead false (opening touchView) (andThen x (λ cs u. got (c ∷ cs) u)) ≡ ofRead false (every (isDown touchView)) (andThen x (λ cs u. got (c ∷ cs) u))
     on c (got cs t) = refl
     on c (bad e) = refl
 
-    go : (x : Got Contact) → ofRead false opening (andThen x (λ c t. andThen (contactsOf n t) (λ cs u. got (c ∷ cs) u))) ≡ ofRead false (every isDown) (andThen x (λ c t. andThen (contactsOf n t) (λ cs u. got (c ∷ cs) u)))
+    go : (x : Got Contact) → ofRead false (opening touchView) (andThen x (λ c t. andThen (contactsOf n t) (λ cs u. got (c ∷ cs) u))) ≡ ofRead false (every (isDown touchView)) (andThen x (λ c t. andThen (contactsOf n t) (λ cs u. got (c ∷ cs) u)))
     go (got c t) = on c (contactsOf n t)
     go (bad e) = refl
 
-pub read-none : (n : ℕ) (l : List ℕ) → n ≡ 0 → ofRead false opening (contactsOf n l) ≡ false
+pub read-none : (n : ℕ) (l : List ℕ) → n ≡ 0 → ofRead false (opening touchView) (contactsOf n l) ≡ false
 unfolding opening
-read-none n l h = read-end false opening n l (omega arith)
+read-none n l h = read-end false (opening touchView) n l (omega arith)
 
 -- ids are bytes
-ids-in : (n : ℕ) (cs : List Contact) → Each (λ b. contact strict .Holds) false n cs → every inTable cs ≡ true
+ids-in : (n : ℕ) (cs : List Contact) → Each (λ b. contact strict .Holds) false n cs → every (inTable touchView) cs ≡ true
 unfolding Each every contact
 ids-in zero [] h = refl
 ids-in zero (c ∷ cs) h = absurd h
 ids-in (suc n) [] h = absurd h
 ids-in (suc n) (c ∷ cs) h = rw (lt-ltb (c .id) contacts (h .0 .0)) (ids-in n cs (h .1))
 
-pub read-ids : (n : ℕ) (l : List ℕ) → Bytes l → ofRead true (every inTable) (contactsOf n l) ≡ true
+pub read-ids : (n : ℕ) (l : List ℕ) → Bytes l → ofRead true (every (inTable touchView)) (contactsOf n l) ≡ true
 read-ids n l hl = go (contactsOf n l) refl
   where
-    go : (x : Got (List Contact)) → contactsOf n l ≡ x → ofRead true (every inTable) x ≡ true
+    go : (x : Got (List Contact)) → contactsOf n l ≡ x → ofRead true (every (inTable touchView)) x ≡ true
     go (got cs t) w = ids-in n cs (times-law (contact strict) n (contact-law strict strict-law) .sound l cs t hl w .0)
     go (bad e) w = refl

@@ -9,11 +9,11 @@ use lib.IntN.{ℤ}
 use lib.ListN.{length, getD, set, replicate}
 use Rattle.states.specs.Table.{out, next}
 use Rattle.house.specs.declared.Contact.{Contact}
-use Rattle.contacts.specs.Table.{active, one}
-use Rattle.contacts.specs.Conforms.{every}
+use Rattle.machine.specs.Table.{active, one}
+use Rattle.machine.specs.Conforms.{every}
 use Rattle.contacts.specs.Ruling.{allowedIn, came, gone, unlawful, surveyed}
 use Rattle.contacts.specs.declared.Survey.{Survey}
-use Rattle.contacts.proofs.Conforms.{every-on, every-off}
+use Rattle.machine.proofs.Conforms.{every-on, every-off}
 use Rattle.contacts.proofs.Seen.{clear, clear-start, clear-on, clear-off, clear-end}
 use Rattle.contacts.proofs.Judgement.{came-on, gone-on}
 

@@ -1,5 +1,3 @@
--- Contacts: the table of them, when a frame conforms, and what frames leave and write.
-pub mod Table
-pub mod Conforms
-pub mod Machine
+-- Touch contacts in the machine, and what the code answers for a frame of them.
+pub mod Touch
 pub mod Ruling

@@ -11,9 +11,11 @@ use Rattle.fields.specs.Integers.{strict}
 use Rattle.states.specs.Table.{out, next}
 use Rattle.house.specs.declared.Contact.{Contact}
 use Rattle.touch.specs.Touch.{contact}
-use Rattle.contacts.specs.Table.{Table, contacts, active, one, countActive}
-use Rattle.contacts.specs.Conforms.{Rules, every, distinct, legal, stays, after, conforms}
-use Rattle.contacts.specs.Machine.{Machine, Verdict, injected, ignored, cancelled, verdict}
+use Rattle.machine.specs.Table.{Table, contacts, active, one, countActive}
+use Rattle.machine.specs.Rules.{Rules}
+use Rattle.machine.specs.Conforms.{every, distinct, legal, stays, tableAfter, conforms}
+use Rattle.machine.specs.Machine.{Machine, Verdict, injected, ignored, cancelled, verdict}
+use Rattle.contacts.specs.Touch.{touchView}
 use Rattle.contacts.specs.declared.Survey.{Survey}
 use Rattle.contacts.specs.declared.Judged.{Judged}
 use Rattle.contacts.specs.declared.Ruling.{Ruling}
@@ -28,19 +30,16 @@ abbrev pub ofRead : {A : Type 0} → A → (List Contact → A) → Got (List Co
 ofRead z f (got cs t) = f cs
 ofRead z f (bad e) = z
 
-abbrev pub tableOf : List ℕ → List ℤ → List ℤ → Table
-tableOf states xs ys = record { states = states; xs = xs; ys = ys }
-
--- document 01's table, and so many contacts at most
-abbrev pub rulesOf : ℕ → Rules
-rulesOf most = record { next = next; most = most }
+-- a table as it is lent
+abbrev pub tableFrom : List ℕ → List ℤ → List ℤ → Table
+tableFrom states xs ys = record { states = states; xs = xs; ys = ys }
 
 -- the rules of one contact, over the arrays that each looks at
 abbrev pub legalIn : List ℕ → Contact → Bool
-legalIn states = legal (rulesOf 0) (tableOf states [] [])
+legalIn states = legal touchView next (tableFrom states [] [])
 
 abbrev pub staysIn : List ℤ → List ℤ → Contact → Bool
-staysIn xs ys = stays (tableOf [] xs ys)
+staysIn xs ys = stays touchView (tableFrom [] xs ys)
 
 abbrev pub allowedIn : List ℕ → List ℤ → List ℤ → Contact → Bool
 allowedIn states xs ys c = cond (legalIn states c) (staysIn xs ys c) false
@@ -62,10 +61,10 @@ unlawful = record { lawful = false; came = 0; gone = 0 }
 
 unfoldable pub surveyed : List ℕ → List ℤ → List ℤ → List Contact → Survey
 surveyed states xs ys cs =
-    cond (cond (distinct cs) (every (allowedIn states xs ys) cs) false) (record { lawful = true; came = came next states cs; gone = gone states cs }) unlawful
+    cond (cond (distinct touchView cs) (every (allowedIn states xs ys) cs) false) (record { lawful = true; came = came next states cs; gone = gone states cs }) unlawful
 
 -- the answer of a count: of 256 states, as many as a table has
-pub record Counts (states : List ℕ) (r : ℕ) : Type 0 where
+pub record CountsActive (states : List ℕ) (r : ℕ) : Type 0 where
   pub same : r ≡ countActive (take contacts states)
   pub small : r ≤ contacts
 
@@ -85,8 +84,8 @@ abbrev pub judgedAs : ℕ → ℕ → Judged
 judgedAs most k = cond (leb k most) (record { conforms = true; active = k }) refused
 
 -- whether a frame conforms, and how many contacts are active after it if it does
-unfoldable pub judgedOf : Rules → Table → List Contact → Judged
-judgedOf rules t cs = cond (conforms rules t cs) (record { conforms = true; active = countActive (after rules t cs .states) }) refused
+unfoldable pub judgedOf : Rules Contact → Table → List Contact → Judged
+judgedOf rules t cs = cond (conforms touchView rules t cs) (record { conforms = true; active = countActive (tableAfter touchView (rules .next) t cs .states) }) refused
 
 -- a verdict, with the number of active contacts after an injected frame
 abbrev pub rulingAs : Verdict → ℕ → Ruling
@@ -94,8 +93,8 @@ rulingAs injected k = Ruling.Injected k
 rulingAs ignored k = Ruling.Ignored
 rulingAs cancelled k = Ruling.Cancelled
 
-unfoldable pub rulingOf : Rules → Machine → List Contact → Ruling
-rulingOf rules m cs = rulingAs (verdict rules m cs) (countActive (after rules (m .table) cs .states))
+unfoldable pub rulingOf : Rules Contact → Machine → List Contact → Ruling
+rulingOf rules m cs = rulingAs (verdict touchView rules m cs) (countActive (tableAfter touchView (rules .next) (m .table) cs .states))
 
 -- contacts that cannot be read conform to nothing and open nothing
 abbrev pub unread : Bool → Ruling
@@ -103,8 +102,8 @@ unread running = cond running Ruling.Cancelled Ruling.Ignored
 
 -- ---- the promises, of contacts that are read as x; the number of active contacts is to be the table's
 
-abbrev pub Judges : Table → ℕ → ℕ → Got (List Contact) → Judged → Type 0
-Judges t most active x r = Counted active (t .states) → r ≡ ofRead refused (judgedOf (rulesOf most) t) x
+abbrev pub Judges : Rules Contact → Table → ℕ → Got (List Contact) → Judged → Type 0
+Judges rules t active x r = Counted active (t .states) → r ≡ ofRead refused (judgedOf rules t) x
 
-abbrev pub Decides : Machine → ℕ → ℕ → Got (List Contact) → Ruling → Type 0
-Decides m most active x r = Counted active (m .table .states) → r ≡ ofRead (unread (m .running)) (rulingOf (rulesOf most) m) x
+abbrev pub Decides : Rules Contact → Machine → ℕ → Got (List Contact) → Ruling → Type 0
+Decides rules m active x r = Counted active (m .table .states) → r ≡ ofRead (unread (m .running)) (rulingOf rules m) x

@@ -1,8 +1,8 @@
 // How many contacts are active.
 ghost use mathlib.Core.Path.{_≡_};
 ghost use Prim.Native.Nat.{_≤_};
-ghost use Rattle.contacts.specs.Table.{active, one};
-ghost use Rattle.contacts.specs.Ruling.{Counts};
+ghost use Rattle.machine.specs.Table.{active, one};
+ghost use Rattle.contacts.specs.Ruling.{CountsActive};
 
 // A state counts as one where it is active.
 pub(crate) fn one_if_active(state: u8) -> u16
@@ -16,7 +16,7 @@ pub(crate) fn one_if_active(state: u8) -> u16
 
 // How many of the 256 contacts are active.
 pub fn count_active(states: &[u8; 256]) -> u16
-    ensures { λ r. ⌜ Counts (now (states .entry)) r ⌝ }
+    ensures { λ r. ⌜ CountsActive (now (states .entry)) r ⌝ }
 {
     let mut n: u16 = 0;
     let mut i: usize = 0;

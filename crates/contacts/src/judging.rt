@@ -7,8 +7,9 @@ use crate::scan::survey;
 ghost use mathlib.Core.Path.{_≡_};
 ghost use mathlib.Core.Bool.{true, false, cond};
 ghost use Prim.Native.Nat.{_+_, _-_, _≤_};
-ghost use Rattle.contacts.specs.Machine.{opening};
-ghost use Rattle.contacts.specs.Ruling.{contactsOf, ofRead, tableOf, judgedAs, Judges, Decides};
+ghost use Rattle.machine.specs.Machine.{opening};
+ghost use Rattle.contacts.specs.Touch.{touchView, touchRules};
+ghost use Rattle.contacts.specs.Ruling.{contactsOf, ofRead, tableFrom, judgedAs, Judges, Decides};
 
 // At most so many contacts are active after the frame.
 fn settle(found: Survey, active: u16, most: u16) -> Judged
@@ -45,7 +46,7 @@ pub fn judge(
     most: u16,
     active: u16,
 ) -> Judged
-    ensures { λ r. ⌜ Judges (tableOf (now (states .entry)) (now (xs .entry)) (now (ys .entry))) most active (contactsOf n (now (rest .entry))) r ⌝ }
+    ensures { λ r. ⌜ Judges (touchRules most) (tableFrom (now (states .entry)) (now (xs .entry)) (now (ys .entry))) active (contactsOf n (now (rest .entry))) r ⌝ }
 {
     let found = survey(rest, n, states, xs, ys);
     if found.lawful {
@@ -59,7 +60,7 @@ pub fn judge(
 
 // Whether a frame of n contacts is judged at all: running, or opening.
 fn is_judged(running: bool, rest: &[u8], n: u16) -> bool
-    ensures { λ r. ⌜ r ≡ cond running true (ofRead false opening (contactsOf n (now (rest .entry)))) ⌝ }
+    ensures { λ r. ⌜ r ≡ cond running true (ofRead false (opening touchView) (contactsOf n (now (rest .entry)))) ⌝ }
 {
     if running {
         return true;
@@ -78,7 +79,7 @@ pub fn verdict_of(
     most: u16,
     active: u16,
 ) -> Ruling
-    ensures { λ r. ⌜ Decides (record { table = tableOf (now (states .entry)) (now (xs .entry)) (now (ys .entry)); running = running }) most active (contactsOf n (now (rest .entry))) r ⌝ }
+    ensures { λ r. ⌜ Decides (touchRules most) (record { table = tableFrom (now (states .entry)) (now (xs .entry)) (now (ys .entry)); running = running }) active (contactsOf n (now (rest .entry))) r ⌝ }
 {
     if is_judged(running, rest, n) {
         let judged = judge(rest, n, states, xs, ys, most, active);

@@ -5,10 +5,11 @@ use touch::ReadContact;
 ghost use mathlib.Core.Path.{_≡_};
 ghost use mathlib.Core.Bool.{false};
 ghost use mathlib.Core.List.{[]};
-ghost use Rattle.contacts.specs.Table.{placeAt};
-ghost use Rattle.contacts.specs.Conforms.{every, lifts, sameNumber, samePlace};
-ghost use Rattle.contacts.specs.Machine.{isDown, opening};
-ghost use Rattle.contacts.specs.Ruling.{contactsOf, ofRead, tableOf, legalIn, staysIn, allowedIn};
+ghost use Rattle.machine.specs.Table.{placeAt};
+ghost use Rattle.machine.specs.Conforms.{every, lifts, sameNumber, samePlace};
+ghost use Rattle.machine.specs.Machine.{isDown, opening};
+ghost use Rattle.contacts.specs.Touch.{touchView};
+ghost use Rattle.contacts.specs.Ruling.{contactsOf, ofRead, tableFrom, legalIn, staysIn, allowedIn};
 
 // Whether a contact's flags lead to a state from the one that it has.
 fn is_legal(contact: Contact, states: &[u8; 256]) -> bool
@@ -38,7 +39,7 @@ fn same_number(a: i32, b: i32) -> bool
 
 // Whether a position is the stored one of an id.
 fn is_stored(place: Point, id: u8, xs: &[i32; 256], ys: &[i32; 256]) -> bool
-    ensures { λ r. ⌜ r ≡ samePlace place (placeAt (tableOf [] (now (xs .entry)) (now (ys .entry))) id) ⌝ }
+    ensures { λ r. ⌜ r ≡ samePlace place (placeAt (tableFrom [] (now (xs .entry)) (now (ys .entry))) id) ⌝ }
 {
     let i = id as usize;
     if same_number(place.x, xs[i]) {
@@ -75,7 +76,7 @@ pub(crate) fn is_allowed(
 
 // Each contact has 0x19.
 fn all_down(rest: &[u8], n: u16) -> bool
-    ensures { λ r. ⌜ r ≡ ofRead false (every isDown) (contactsOf n (now (rest .entry))) ⌝ }
+    ensures { λ r. ⌜ r ≡ ofRead false (every (isDown touchView)) (contactsOf n (now (rest .entry))) ⌝ }
 {
     let mut at: usize = 0;
     let mut left = n;
@@ -96,7 +97,7 @@ fn all_down(rest: &[u8], n: u16) -> bool
 
 // Whether a frame is opening: it has at least one contact, and each has 0x19.
 pub fn is_opening(rest: &[u8], n: u16) -> bool
-    ensures { λ r. ⌜ r ≡ ofRead false opening (contactsOf n (now (rest .entry))) ⌝ }
+    ensures { λ r. ⌜ r ≡ ofRead false (opening touchView) (contactsOf n (now (rest .entry))) ⌝ }
 {
     if n == 0 {
         return false;

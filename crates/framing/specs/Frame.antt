@@ -1,6 +1,7 @@
 -- Document 01, "Messages" and "House records": frames of contacts, and their records. C is what a contact of the message is.
 use Prim.Native.Nat.{ℕ}
-use mathlib.Core.List.{List, [], _∷_, _++_}
+use mathlib.Core.Bool.{Bool, cond}
+use mathlib.Core.List.{List, [], _∷_, _++_, map}
 use lib.ListN.{length}
 use Rattle.paper.specs.declared.Milliseconds.{Milliseconds}
 use Rattle.paper.specs.declared.Microseconds.{Microseconds}
@@ -24,6 +25,13 @@ headOf f = record { count = length (f .contacts); offset = f .offset }
 -- a frame of a client that sends no offsets
 abbrev pub withoutOffset : {C : Type 0} → Frame C → Frame C
 withoutOffset f = record { offset = record { 0 = 0 }; contacts = f .contacts }
+
+-- "With ready flag 2 set, .. the receiver .. writes offset 0": frames as they are written
+abbrev pub timedFrame : {C : Type 0} → Bool → Frame C → Frame C
+timedFrame untimed f = cond untimed (withoutOffset f) f
+
+unfoldable pub timedFrames : {C : Type 0} → Bool → List (Frame C) → List (Frame C)
+timedFrames untimed fs = map (timedFrame untimed) fs
 
 -- ---- "One head record, then its contacts in message order. An empty frame gives its head."
 

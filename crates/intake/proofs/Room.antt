@@ -6,7 +6,7 @@ use mathlib.Core.Path.{_≡_, refl, sym, ap, _∙_}
 use mathlib.Core.List.{List, [], _∷_, _++_, map}
 use native.Mathlib.Omega.{arith}
 use lib.ListN.{length, drop}
-use Rattle.contacts.specs.Table.{contacts}
+use Rattle.machine.specs.Table.{contacts}
 use Rattle.receiver.specs.History.{Sent, messagesOf, next, answerTo, wrote, after, written, Outcome, outcomes, Roomy}
 use Rattle.receiver.specs.declared.Receiver.{Receiver}
 use Rattle.receiver.proofs.Bound.{mostOutput}

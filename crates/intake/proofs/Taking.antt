@@ -18,7 +18,7 @@ use Rattle.entries.specs.declared.Front.{Front}
 use Rattle.entries.specs.declared.Front.the-variants as Front
 use Rattle.entries.proofs.Laws.{front-inside}
 use Rattle.house.specs.Fields.{recordBytes}
-use Rattle.contacts.specs.Table.{contacts}
+use Rattle.machine.specs.Table.{contacts}
 use Rattle.receiver.specs.Receive.{Receives}
 use Rattle.receiver.specs.History.{Sent, next, answerTo, wrote, after, written}
 use Rattle.receiver.specs.declared.Receiver.{Receiver}

@@ -1,7 +1,7 @@
 -- When a frame conforms, contact by contact; and what a frame of distinct ids leaves.
 -- Assumes nothing.
 use Prim.Native.Nat.{ℕ, _+_, _<_}
-use mathlib.Core.Path.{_≡_, refl, sym, ap, _∙_}
+use mathlib.Core.Path.{_≡_, refl, ap}
 use mathlib.Core.Bool.{Bool, true, false, cond, not}
 use mathlib.Core.List.{List, [], _∷_}
 use native.Mathlib.Omega.{arith}
@@ -54,6 +54,12 @@ pub every-both : {A : Type 0} (p q r : A → Bool) → ((a : A) → p a ≡ cond
 unfolding every
 every-both p q r h [] = refl
 every-both p q r h (a ∷ l) = rw (h a, every-both p q r h l) (swap (q a) (r a) (every q l) (every r l))
+
+-- a test that all pass
+pub every-true : {A : Type 0} (l : List A) → every (λ (a : A). true) l ≡ true
+unfolding every
+every-true [] = refl
+every-true (a ∷ l) = every-true l
 
 -- two tests that agree
 pub every-same : {A : Type 0} (q p r : A → Bool) → ((a : A) → q a ≡ true → p a ≡ r a) → (l : List A) → every q l ≡ true → every p l ≡ every r l

@@ -4,7 +4,7 @@ use Prim.Native.Nat.{ℕ, zero, suc, _+_, _*_, _-_, _≤_, _<_}
 use mathlib.Core.Path.{_≡_, refl, sym, ap, _∙_}
 use mathlib.Core.Bool.{Bool, true, false, cond}
 use mathlib.Core.List.{List, [], _∷_, _++_, append-assoc}
-use native.Mathlib.Nat.{zero-add}
+use native.Mathlib.Nat.{add-zero, zero-add, add-assoc}
 use native.Mathlib.Numerals.{add-one}
 use native.Mathlib.Omega.{arith}
 use borrow.Author.Tests.{ne-eqb}
@@ -23,19 +23,21 @@ use Rattle.machine.proofs.Conforms.{after-whole}
 
 -- ---- counts
 
-plus-none : (k : Counts) → plus none k ≡ k
-plus-none k =
-    let a = zero-add (k .injected) in
-    let b = zero-add (k .ignored) in
-    let c = zero-add (k .cancelled) in
-    λ i. record { injected = a i; ignored = b i; cancelled = c i }
+pub none-plus : (k : Counts) → plus none k ≡ k
+none-plus k =
+    λ i. record { injected = zero-add (k .injected) i; ignored = zero-add (k .ignored) i; cancelled = zero-add (k .cancelled) i }
 
-plus-assoc : (k l n : Counts) → plus (plus k l) n ≡ plus k (plus l n)
+pub plus-none : (k : Counts) → plus k none ≡ k
+plus-none k =
+    λ i. record { injected = add-zero (k .injected) i; ignored = add-zero (k .ignored) i; cancelled = add-zero (k .cancelled) i }
+
+pub plus-assoc : (k l n : Counts) → plus (plus k l) n ≡ plus k (plus l n)
 plus-assoc k l n =
-    let a : (k .injected + l .injected) + n .injected ≡ k .injected + (l .injected + n .injected) = omega arith in
-    let b : (k .ignored + l .ignored) + n .ignored ≡ k .ignored + (l .ignored + n .ignored) = omega arith in
-    let c : (k .cancelled + l .cancelled) + n .cancelled ≡ k .cancelled + (l .cancelled + n .cancelled) = omega arith in
-    λ i. record { injected = a i; ignored = b i; cancelled = c i }
+    λ i. record {
+      injected = add-assoc (k .injected) (l .injected) (n .injected) i;
+      ignored = add-assoc (k .ignored) (l .ignored) (n .ignored) i;
+      cancelled = add-assoc (k .cancelled) (l .cancelled) (n .cancelled) i;
+    }
 
 abbrev pub total : Counts → ℕ
 total k = k .injected + k .ignored + k .cancelled
@@ -96,7 +98,7 @@ module _ {C : Type 0} (view : View C) where
 
     pub counts-append : (m : Machine) (fs gs : List (Frame C)) → runCounts view rules m (fs ++ gs) ≡ plus (runCounts view rules m fs) (runCounts view rules (runMachine view rules m fs) gs)
     unfolding runMachine runCounts
-    counts-append m [] gs = sym (plus-none (runCounts view rules m gs))
+    counts-append m [] gs = sym (none-plus (runCounts view rules m gs))
     counts-append m (f ∷ fs) gs =
         let v = countOf (verdict view rules m (f .contacts)) in
         let n = stepMachine view rules m f in
@@ -157,7 +159,7 @@ module _ {C : Type 0} (view : View C) where
           go true s h = h
           go false s h = refl
 
-      cancels-from-length : (id n : ℕ) → length (cancelsFrom view t id n) ≡ recordBytes * countActive (take n (drop id (t .states)))
+      pub cancels-from-length : (id n : ℕ) → length (cancelsFrom view t id n) ≡ recordBytes * countActive (take n (drop id (t .states)))
       unfolding cancelsFrom stateAt countActive
       cancels-from-length id zero = refl
       cancels-from-length id (suc n) =

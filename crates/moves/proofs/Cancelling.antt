@@ -13,9 +13,10 @@ use Rattle.slices.proofs.Laws.{writes-bytes}
 use Rattle.states.specs.Table.{out}
 use Rattle.house.specs.Layout.{contactBytes, cancelled as cancelKind}
 use Rattle.house.specs.declared.Contact.{Contact}
-use Rattle.contacts.specs.Table.{Table, contacts, stateAt, placeAt}
-use Rattle.contacts.specs.Machine.{stored, cancelFlags, cancelBytes, cancelsFrom}
-use Rattle.contacts.proofs.Machine.{cancel-active, cancel-out, cancels-step}
+use Rattle.machine.specs.Table.{Table, contacts, stateAt, placeAt}
+use Rattle.machine.specs.Machine.{cancelFlags, cancelBytes, cancelsFrom}
+use Rattle.machine.proofs.Machine.{cancel-active, cancel-out, cancels-step}
+use Rattle.contacts.specs.Touch.{bareContact, touchView}
 
 -- no bytes are written anywhere
 pub writes-nothing : (s before : List ℕ) → s ≡ [] → Writes (bytes s) (record { refusal = none; bytes = 0 }) before before
@@ -23,17 +24,17 @@ writes-nothing s before e = rw e (writes-bytes [] (record { refusal = none; byte
 
 module _ (t : Table) (id : ℕ) where
   -- a contact out of range writes nothing
-  pub cancels-nothing : (before : List ℕ) → stateAt t id ≡ out → Writes (bytes (cancelBytes t id)) (record { refusal = none; bytes = 0 }) before before
-  cancels-nothing before o = writes-nothing (cancelBytes t id) before (cancel-out t id (rw (eq-eqb (stateAt t id) out o)))
+  pub cancels-nothing : (before : List ℕ) → stateAt t id ≡ out → Writes (bytes (cancelBytes touchView t id)) (record { refusal = none; bytes = 0 }) before before
+  cancels-nothing before o = writes-nothing (cancelBytes touchView t id) before (cancel-out touchView t id (rw (eq-eqb (stateAt t id) out o)))
 
   -- an active contact writes its record
-  pub cancels-record : (w : Written) (before after : List ℕ) (flags : ℕ) (c : Contact) → (stateAt t id ≡ out → ⊥) → flags ≡ cancelFlags (stateAt t id) → c ≡ stored flags id (placeAt t id)
-      → Writes (bytes (contactBytes cancelKind c)) w before after → Writes (bytes (cancelBytes t id)) w before after
+  pub cancels-record : (w : Written) (before after : List ℕ) (flags : ℕ) (c : Contact) → (stateAt t id ≡ out → ⊥) → flags ≡ cancelFlags (stateAt t id) → c ≡ bareContact flags id (placeAt t id)
+      → Writes (bytes (contactBytes cancelKind c)) w before after → Writes (bytes (cancelBytes touchView t id)) w before after
   cancels-record w before after flags c o f e h =
-      let a = cancel-active t id (rw (ne-eqb (stateAt t id) out o)) in
-      let b = e ∙ ap (λ (n : ℕ). stored n id (placeAt t id)) f in
+      let a = cancel-active touchView t id (rw (ne-eqb (stateAt t id) out o)) in
+      let b = e ∙ ap (λ (n : ℕ). bareContact n id (placeAt t id)) f in
       rw (a, ← b) h
 
   -- the cancels from id on: this contact's and the others'
-  pub cancels-long : id < contacts → length (cancelsFrom t id (contacts - id)) ≡ length (cancelBytes t id) + length (cancelsFrom t (id + 1) (contacts - (id + 1)))
-  cancels-long h = ap length (cancels-step t id h) ∙ length-append (cancelBytes t id) (cancelsFrom t (id + 1) (contacts - (id + 1)))
+  pub cancels-long : id < contacts → length (cancelsFrom touchView t id (contacts - id)) ≡ length (cancelBytes touchView t id) + length (cancelsFrom touchView t (id + 1) (contacts - (id + 1)))
+  cancels-long h = ap length (cancels-step touchView t id h) ∙ length-append (cancelBytes touchView t id) (cancelsFrom touchView t (id + 1) (contacts - (id + 1)))

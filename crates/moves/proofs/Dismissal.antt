@@ -14,21 +14,22 @@ use Rattle.states.specs.Table.{out, hovering}
 use Rattle.house.proofs.Round.{length-contact}
 use Rattle.house.specs.Layout.{contactBytes, dismissed as dismissKind}
 use Rattle.house.specs.declared.Contact.{Contact}
-use Rattle.contacts.specs.Table.{Table, stateAt, placeAt, withContact, origin}
-use Rattle.contacts.specs.Machine.{stored, dismissTable, dismissBytes}
-use Rattle.contacts.proofs.Machine.{dismiss-table, dismiss-bytes, keep-table, keep-bytes}
+use Rattle.machine.specs.Table.{Table, stateAt, placeAt, withContact, origin}
+use Rattle.machine.specs.Machine.{dismissTable, dismissBytes}
+use Rattle.machine.proofs.Machine.{dismiss-table, dismiss-bytes, keep-table, keep-bytes}
+use Rattle.contacts.specs.Touch.{bareContact, touchView}
 use Rattle.moves.specs.Moves.{dismissedIn, Dismisses}
 use Rattle.moves.proofs.Cancelling.{writes-nothing}
 
 module _ (t : Table) (id : ℕ) where
-  pub dismiss-length : stateAt t id ≡ hovering → length (dismissBytes t id) ≡ 21
-  dismiss-length h = ap length (dismiss-bytes t id h) ∙ length-contact dismissKind (stored 0x02 id (placeAt t id))
+  pub dismiss-length : stateAt t id ≡ hovering → length (dismissBytes touchView t id) ≡ 21
+  dismiss-length h = ap length (dismiss-bytes touchView t id h) ∙ length-contact dismissKind (bareContact 0x02 id (placeAt t id))
 
-  dismissed-room : (room : ℕ) → length (dismissBytes t id) ≤ room → dismissedIn room t id ≡ dismissTable t id
+  dismissed-room : (room : ℕ) → length (dismissBytes touchView t id) ≤ room → dismissedIn room t id ≡ dismissTable t id
   unfolding dismissedIn
   dismissed-room room h = rw (le-leb _ _ h)
 
-  dismissed-none : (room : ℕ) → room < length (dismissBytes t id) → dismissedIn room t id ≡ t
+  dismissed-none : (room : ℕ) → room < length (dismissBytes touchView t id) → dismissedIn room t id ≡ t
   unfolding dismissedIn
   dismissed-none room h = rw (lt-leb _ _ h)
 
@@ -36,27 +37,27 @@ module _ (t : Table) (id : ℕ) where
 
   pub dismisses-nothing : (before : List ℕ) → (stateAt t id ≡ hovering → ⊥) → Dismisses id (record { refusal = none; bytes = 0 }) before before t t
   dismisses-nothing before h =
-      let e = keep-bytes t id h in
-      let l : length (dismissBytes t id) ≤ length before = rw e (omega arith) in
+      let e = keep-bytes touchView t id h in
+      let l : length (dismissBytes touchView t id) ≤ length before = rw e (omega arith) in
       record {
-        writes = writes-nothing (dismissBytes t id) before e;
+        writes = writes-nothing (dismissBytes touchView t id) before e;
         table = sym (dismissed-room (length before) l ∙ keep-table t id h);
       }
 
   module _ (h : stateAt t id ≡ hovering) where
     pub dismisses-none : (before : List ℕ) → length before < 21 → Dismisses id (record { refusal = noRoom; bytes = 0 }) before before t t
     dismisses-none before r =
-        let l : length before < length (dismissBytes t id) = rw (dismiss-length h) r in
+        let l : length before < length (dismissBytes touchView t id) = rw (dismiss-length h) r in
         record {
-          writes = writes-none (dismissBytes t id) _ before before l refl refl;
+          writes = writes-none (dismissBytes touchView t id) _ before before l refl refl;
           table = sym (dismissed-none (length before) l);
         }
 
-    pub dismisses-record : (w : Written) (before after : List ℕ) (u : Table) (c : Contact) → 21 ≤ length before → c ≡ stored 0x02 id (placeAt t id) → u ≡ withContact t id out origin
+    pub dismisses-record : (w : Written) (before after : List ℕ) (u : Table) (c : Contact) → 21 ≤ length before → c ≡ bareContact 0x02 id (placeAt t id) → u ≡ withContact t id out origin
         → Writes (bytes (contactBytes dismissKind c)) w before after → Dismisses id w before after t u
     dismisses-record w before after u c r e q d =
-        let l : length (dismissBytes t id) ≤ length before = rw (dismiss-length h) r in
+        let l : length (dismissBytes touchView t id) ≤ length before = rw (dismiss-length h) r in
         record {
-          writes = rw (dismiss-bytes t id h, ← e) d;
+          writes = rw (dismiss-bytes touchView t id h, ← e) d;
           table = q ∙ sym (dismissed-room (length before) l ∙ dismiss-table t id h);
         }

@@ -1,5 +1,4 @@
 pub mod Moving
 pub mod Cancelling
 pub mod Dismissal
-pub mod Kept
 pub mod Unique

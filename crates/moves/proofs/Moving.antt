@@ -11,44 +11,45 @@ use Rattle.formats.specs.Format.{Got, got, bad, andThen, readSeries}
 use Rattle.formats.specs.Answer.{skipped}
 use Rattle.formats.proofs.Steps.{Stepped}
 use Rattle.fields.specs.Integers.{strict}
-use Rattle.states.specs.Table.{out}
+use Rattle.states.specs.Table.{out, next}
 use Rattle.house.specs.declared.Contact.{Contact}
 use Rattle.touch.specs.Touch.{contact}
-use Rattle.contacts.specs.Table.{Table, withContact, origin}
-use Rattle.contacts.specs.Conforms.{Rules, nextOf, moved, after}
-use Rattle.contacts.specs.Ruling.{contactsOf, rulesOf}
+use Rattle.machine.specs.Table.{Table, withContact, origin}
+use Rattle.machine.specs.Conforms.{nextOf, moved, tableAfter}
+use Rattle.contacts.specs.Touch.{touchView}
+use Rattle.contacts.specs.Ruling.{contactsOf}
 use Rattle.moves.specs.Moves.{onRead, afterRead, Moves, EndsAt, Ends, Applies}
 
 -- ---- one contact
 
-module _ (t u : Table) (c : Contact) (s : ℕ) (next : s ≡ nextOf (rulesOf 0) t c) where
+module _ (t u : Table) (c : Contact) (s : ℕ) (stepped : s ≡ nextOf touchView next t c) where
   pub moves-out : s ≡ out → u ≡ withContact t (c .id) s origin → Moves c t u
   unfolding moved
-  moves-out o e = record { table = λ most. e ∙ rw (← next, eq-eqb s out o) }
+  moves-out o e = e ∙ rw (← stepped, eq-eqb s out o)
 
   pub moves-in : (s ≡ out → ⊥) → u ≡ withContact t (c .id) s (c .place) → Moves c t u
   unfolding moved
-  moves-in o e = record { table = λ most. e ∙ rw (← next, ne-eqb s out o) }
+  moves-in o e = e ∙ rw (← stepped, ne-eqb s out o)
 
 -- ---- one turn of a loop over the contacts
 
-module _ (rules : Rules) (t : Table) where
-  pub read-end : (k : ℕ) (l : List ℕ) → k ≤ 0 → afterRead rules k t l ≡ t
+module _ (t : Table) where
+  pub read-end : (k : ℕ) (l : List ℕ) → k ≤ 0 → afterRead k t l ≡ t
   unfolding afterRead
   read-end zero l h = refl
   read-end (suc k) l h = absurd (omega arith)
 
-  pub read-bad : (k : ℕ) (l : List ℕ) (e : ℕ) → 0 < k → contact strict .read l ≡ bad e → afterRead rules k t l ≡ t
+  pub read-bad : (k : ℕ) (l : List ℕ) (e : ℕ) → 0 < k → contact strict .read l ≡ bad e → afterRead k t l ≡ t
   unfolding afterRead
   read-bad zero l e h w = absurd (omega arith)
   read-bad (suc k) l e h w = rw w
 
 -- a contact stored, and the others still to be read
-pub read-on : (most : ℕ) (t u : Table) (k at next : ℕ) (s : List ℕ) (c : Contact) → 0 < k → Stepped (contact strict) s at c next → Moves c t u
-    → afterRead (rulesOf most) (k - 1) u (drop next s) ≡ afterRead (rulesOf most) k t (drop at s)
+pub read-on : (t u : Table) (k at end : ℕ) (s : List ℕ) (c : Contact) → 0 < k → Stepped (contact strict) s at c end → Moves c t u
+    → afterRead (k - 1) u (drop end s) ≡ afterRead k t (drop at s)
 unfolding afterRead
-read-on most t u zero at next s c h w m = absurd (omega arith)
-read-on most t u (suc k) at next s c h w m = rw (w .reads, sub-one, m .table most)
+read-on t u zero at end s c h w m = absurd (omega arith)
+read-on t u (suc k) at end s c h w m = rw (w .reads, sub-one, m)
 
 -- ---- contacts that can all be read: what is left is what the frame leaves
 
@@ -58,32 +59,31 @@ never e a l h = absurd (let z : _≡_ {A = ℕ} 0 1 = cc in omega arith)
 same : {A : Type 0} (a b : A) (l m : List ℕ) → got a l ≡ got b m → a ≡ b
 same a b l m h = cc
 
-module _ (rules : Rules) where
-  abbrev pub Leads : ℕ → Type 0
-  Leads n = (t : Table) (l : List ℕ) (cs : List Contact) (rest : List ℕ) → contactsOf n l ≡ got cs rest → afterRead rules n t l ≡ after rules t cs
+abbrev Leads : ℕ → Type 0
+Leads n = (t : Table) (l : List ℕ) (cs : List Contact) (rest : List ℕ) → contactsOf n l ≡ got cs rest → afterRead n t l ≡ tableAfter touchView next t cs
 
-  one-more : (n : ℕ) → Leads n → Leads (suc n)
-  unfolding afterRead after readSeries
-  one-more n leads t l cs rest e = first (contact strict .read l) e
-    where
-      others : (c : Contact) (m : List ℕ) (y : Got (List Contact)) → contactsOf n m ≡ y → andThen y (λ ds v. got (c ∷ ds) v) ≡ got cs rest
-          → afterRead rules n (moved rules t c) m ≡ after rules t cs
-      others c m (got ds v) q h = leads (moved rules t c) m ds v q ∙ ap (after rules t) (same (c ∷ ds) cs v rest h)
-      others c m (bad x) q h = never x cs rest h
+one-more : (n : ℕ) → Leads n → Leads (suc n)
+unfolding afterRead tableAfter readSeries
+one-more n leads t l cs rest e = first (contact strict .read l) e
+  where
+    others : (c : Contact) (m : List ℕ) (y : Got (List Contact)) → contactsOf n m ≡ y → andThen y (λ ds v. got (c ∷ ds) v) ≡ got cs rest
+        → afterRead n (moved touchView next t c) m ≡ tableAfter touchView next t cs
+    others c m (got ds v) q h = leads (moved touchView next t c) m ds v q ∙ ap (tableAfter touchView next t) (same (c ∷ ds) cs v rest h)
+    others c m (bad x) q h = never x cs rest h
 
-      first : (x : Got Contact) → andThen x (λ c m. andThen (contactsOf n m) (λ ds v. got (c ∷ ds) v)) ≡ got cs rest
-          → onRead t (λ c m. afterRead rules n (moved rules t c) m) x ≡ after rules t cs
-      first (got c m) h = others c m (contactsOf n m) refl h
-      first (bad x) h = never x cs rest h
+    first : (x : Got Contact) → andThen x (λ c m. andThen (contactsOf n m) (λ ds v. got (c ∷ ds) v)) ≡ got cs rest
+        → onRead t (λ c m. afterRead n (moved touchView next t c) m) x ≡ tableAfter touchView next t cs
+    first (got c m) h = others c m (contactsOf n m) refl h
+    first (bad x) h = never x cs rest h
 
-  pub read-all : (n : ℕ) → Leads n
-  unfolding afterRead after readSeries
-  read-all zero t l cs rest e = ap (after rules t) (same [] cs l rest e)
-  read-all (suc n) t l cs rest e = one-more n (read-all n) t l cs rest e
+read-all : (n : ℕ) → Leads n
+unfolding afterRead tableAfter readSeries
+read-all zero t l cs rest e = ap (tableAfter touchView next t) (same [] cs l rest e)
+read-all (suc n) t l cs rest e = one-more n (read-all n) t l cs rest e
 
-pub applies-after : (most n : ℕ) (l : List ℕ) (end : ℕ) (t u : Table) (cs : List Contact) (rest : List ℕ) → Applies n l end t u → contactsOf n l ≡ got cs rest
-    → u ≡ after (rulesOf most) t cs
-applies-after most n l end t u cs rest h e = h .table most ∙ read-all (rulesOf most) n t l cs rest e
+pub applies-after : (n : ℕ) (l : List ℕ) (end : ℕ) (t u : Table) (cs : List Contact) (rest : List ℕ) → Applies n l end t u → contactsOf n l ≡ got cs rest
+    → u ≡ tableAfter touchView next t cs
+applies-after n l end t u cs rest h e = h .table ∙ read-all n t l cs rest e
 
 -- ---- where they end
 

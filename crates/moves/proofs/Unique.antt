@@ -10,13 +10,14 @@ use Rattle.slices.specs.declared.Written.{Written}
 use Rattle.slices.proofs.Laws.{writes-unique}
 use Rattle.formats.specs.Format.{Got, got, bad}
 use Rattle.house.specs.declared.Contact.{Contact}
+use Rattle.contacts.specs.Touch.{touchView}
 use Rattle.contacts.specs.Ruling.{contactsOf}
-use Rattle.contacts.specs.Table.{Table, resting}
-use Rattle.contacts.specs.Machine.{cancels, dismissBytes}
+use Rattle.machine.specs.Table.{Table, resting}
+use Rattle.machine.specs.Machine.{cancels, dismissBytes}
 use Rattle.moves.specs.Moves.{Moves, EndsAt, Ends, Applies, Dismisses}
 
 pub move-contact-unique : (c : Contact) (t u u′ : Table) → Moves c t u → Moves c t u′ → u ≡ u′
-move-contact-unique c t u u′ h k = h .table 0 ∙ sym (k .table 0)
+move-contact-unique c t u u′ h k = h ∙ sym k
 
 pub ends-unique : (n : ℕ) (l : List ℕ) (m m′ : ℕ) → Ends n l m → Ends n l m′ → m ≡ m′
 ends-unique n l m m′ h k = go (contactsOf n l) (h .ends) (k .ends)
@@ -26,16 +27,16 @@ ends-unique n l m m′ h k = go (contactsOf n l) (h .ends) (k .ends)
     go (got cs t) p q = omega (arith, h .inside, k .inside, length-drop m l, length-drop m′ l, ap length (p ∙ sym q))
 
 pub apply-unique : (n : ℕ) (l : List ℕ) (m m′ : ℕ) (t u u′ : Table) → Applies n l m t u → Applies n l m′ t u′ → (m ≡ m′) × (u ≡ u′)
-apply-unique n l m m′ t u u′ h k = (ends-unique n l m m′ (h .passed) (k .passed), h .table 0 ∙ sym (k .table 0))
+apply-unique n l m m′ t u u′ h k = (ends-unique n l m m′ (h .passed) (k .passed), h .table ∙ sym (k .table))
 
 pub rest-all-unique : (u u′ : Table) → u ≡ resting → u′ ≡ resting → u ≡ u′
 rest-all-unique u u′ h k = h ∙ sym k
 
 pub write-cancels-unique : (t : Table) (v w : Written) (before after after′ : List ℕ)
-    → Writes (bytes (cancels t)) v before after → Writes (bytes (cancels t)) w before after′ → (v ≡ w) × (after ≡ after′)
-write-cancels-unique t = writes-unique (bytes (cancels t))
+    → Writes (bytes (cancels touchView t)) v before after → Writes (bytes (cancels touchView t)) w before after′ → (v ≡ w) × (after ≡ after′)
+write-cancels-unique t = writes-unique (bytes (cancels touchView t))
 
 pub dismiss-unique : (id : ℕ) (v w : Written) (before after after′ : List ℕ) (t u u′ : Table)
     → Dismisses id v before after t u → Dismisses id w before after′ t u′ → ((v ≡ w) × (after ≡ after′)) × (u ≡ u′)
 dismiss-unique id v w before after after′ t u u′ h k =
-    (writes-unique (bytes (dismissBytes t id)) v w before after after′ (h .writes) (k .writes), h .table ∙ sym (k .table))
+    (writes-unique (bytes (dismissBytes touchView t id)) v w before after after′ (h .writes) (k .writes), h .table ∙ sym (k .table))

@@ -9,12 +9,14 @@ use Rattle.slices.specs.Writing.{bytes, Writes}
 use Rattle.slices.specs.declared.Written.{Written}
 use Rattle.formats.specs.Format.{Got, got, bad}
 use Rattle.fields.specs.Integers.{strict}
+use Rattle.states.specs.Table.{next}
 use Rattle.house.specs.declared.Contact.{Contact}
 use Rattle.touch.specs.Touch.{contact}
-use Rattle.contacts.specs.Table.{Table}
-use Rattle.contacts.specs.Conforms.{Rules, moved}
-use Rattle.contacts.specs.Machine.{dismissTable, dismissBytes}
-use Rattle.contacts.specs.Ruling.{contactsOf, rulesOf}
+use Rattle.machine.specs.Table.{Table}
+use Rattle.machine.specs.Conforms.{moved}
+use Rattle.machine.specs.Machine.{dismissTable, dismissBytes}
+use Rattle.contacts.specs.Touch.{touchView}
+use Rattle.contacts.specs.Ruling.{contactsOf}
 
 -- what a value and the bytes after it lead to, and z where there is none
 abbrev pub onRead : {A B : Type 0} → B → (A → List ℕ → B) → Got A → B
@@ -22,13 +24,13 @@ onRead z f (got a t) = f a t
 onRead z f (bad e) = z
 
 -- what n contacts at the front of a list of bytes leave, one after the other; those before the first that cannot be read, where one cannot
-unfoldable pub afterRead : Rules → ℕ → Table → List ℕ → Table
-afterRead rules zero t l = t
-afterRead rules (suc n) t l = onRead t (λ c rest. afterRead rules n (moved rules t c) rest) (contact strict .read l)
+unfoldable pub afterRead : ℕ → Table → List ℕ → Table
+afterRead zero t l = t
+afterRead (suc n) t l = onRead t (λ c rest. afterRead n (moved touchView next t c) rest) (contact strict .read l)
 
--- one contact stored, however many may be active
-pub record Moves (c : Contact) (before after : Table) : Type 0 where
-  pub table : (most : ℕ) → after ≡ moved (rulesOf most) before c
+-- one contact stored
+abbrev pub Moves : Contact → Table → Table → Type 0
+Moves c before after = after ≡ moved touchView next before c
 
 -- where contacts that are read as x end in l, and 0 where they cannot be read
 abbrev pub EndsAt : Got (List Contact) → List ℕ → ℕ → Type 0
@@ -41,13 +43,13 @@ pub record Ends (n : ℕ) (l : List ℕ) (end : ℕ) : Type 0 where
 
 -- the n contacts at the front of l stored
 pub record Applies (n : ℕ) (l : List ℕ) (end : ℕ) (before after : Table) : Type 0 where
-  pub table : (most : ℕ) → after ≡ afterRead (rulesOf most) n before l
+  pub table : after ≡ afterRead n before l
   pub passed : Ends n l end
 
 -- a dismissal that finds too little room leaves the table as it was
 unfoldable pub dismissedIn : ℕ → Table → ℕ → Table
-dismissedIn room t id = cond (leb (length (dismissBytes t id)) room) (dismissTable t id) t
+dismissedIn room t id = cond (leb (length (dismissBytes touchView t id)) room) (dismissTable t id) t
 
 pub record Dismisses (id : ℕ) (w : Written) (before after : List ℕ) (t u : Table) : Type 0 where
-  pub writes : Writes (bytes (dismissBytes t id)) w before after
+  pub writes : Writes (bytes (dismissBytes touchView t id)) w before after
   pub table : u ≡ dismissedIn (length before) t id

@@ -8,14 +8,15 @@ use slices::Written;
 ghost use mathlib.Core.Path.{_≡_};
 ghost use mathlib.Core.List.{[]};
 ghost use Rattle.slices.specs.Writing.{bytes, Writes};
-ghost use Rattle.contacts.specs.Table.{placeAt};
-ghost use Rattle.contacts.specs.Machine.{stored, cancelFlags, cancelBytes, cancels};
-ghost use Rattle.contacts.specs.Ruling.{tableOf};
+ghost use Rattle.machine.specs.Table.{placeAt};
+ghost use Rattle.machine.specs.Machine.{cancelFlags, cancelBytes, cancels};
+ghost use Rattle.contacts.specs.Touch.{bareContact, touchView};
+ghost use Rattle.contacts.specs.Ruling.{tableFrom};
 ghost use Rattle.moves.specs.Moves.{Dismisses};
 
 // A contact as it stands in the table, with no optional field.
 fn stored_contact(flags: u8, id: u8, xs: &[i32; 256], ys: &[i32; 256]) -> Contact
-    ensures { λ r. ⌜ r ≡ stored flags id (placeAt (tableOf [] (now (xs .entry)) (now (ys .entry))) id) ⌝ }
+    ensures { λ r. ⌜ r ≡ bareContact flags id (placeAt (tableFrom [] (now (xs .entry)) (now (ys .entry))) id) ⌝ }
 {
     let at = id as usize;
     let place = Point {
@@ -57,7 +58,7 @@ fn write_cancel(
     xs: &[i32; 256],
     ys: &[i32; 256],
 ) -> Written
-    ensures { λ r. ⌜ Writes (bytes (cancelBytes (tableOf (now (states .entry)) (now (xs .entry)) (now (ys .entry))) id)) r (now (out .entry)) (now (out .exit)) ⌝ }
+    ensures { λ r. ⌜ Writes (bytes (cancelBytes touchView (tableFrom (now (states .entry)) (now (xs .entry)) (now (ys .entry))) id)) r (now (out .entry)) (now (out .exit)) ⌝ }
 {
     let i = id as usize;
     let state = states[i];
@@ -78,7 +79,7 @@ pub fn write_cancels(
     xs: &[i32; 256],
     ys: &[i32; 256],
 ) -> Written
-    ensures { λ r. ⌜ Writes (bytes (cancels (tableOf (now (states .entry)) (now (xs .entry)) (now (ys .entry))))) r (now (out .entry)) (now (out .exit)) ⌝ }
+    ensures { λ r. ⌜ Writes (bytes (cancels touchView (tableFrom (now (states .entry)) (now (xs .entry)) (now (ys .entry))))) r (now (out .entry)) (now (out .exit)) ⌝ }
 {
     let active = contacts::count_active(states) as usize;
     if out.len() < RECORD_BYTES * active {
@@ -108,7 +109,7 @@ pub fn dismiss(
     xs: &mut [i32; 256],
     ys: &mut [i32; 256],
 ) -> Written
-    ensures { λ r. ⌜ Dismisses id r (now (out .entry)) (now (out .exit)) (tableOf (now (states .entry)) (now (xs .entry)) (now (ys .entry))) (tableOf (now (states .exit)) (now (xs .exit)) (now (ys .exit))) ⌝ }
+    ensures { λ r. ⌜ Dismisses id r (now (out .entry)) (now (out .exit)) (tableFrom (now (states .entry)) (now (xs .entry)) (now (ys .entry))) (tableFrom (now (states .exit)) (now (xs .exit)) (now (ys .exit))) ⌝ }
 {
     let i = id as usize;
     if states[i] != states::HOVERING {

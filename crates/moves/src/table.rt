@@ -3,8 +3,8 @@ use house::Contact;
 use house::Point;
 use touch::ReadContact;
 ghost use mathlib.Core.Path.{_≡_};
-ghost use Rattle.contacts.specs.Table.{withContact, resting};
-ghost use Rattle.contacts.specs.Ruling.{tableOf};
+ghost use Rattle.machine.specs.Table.{withContact, resting};
+ghost use Rattle.contacts.specs.Ruling.{tableFrom};
 ghost use Rattle.moves.specs.Moves.{Moves, Applies};
 
 // A contact's state and position, put for those that it had.
@@ -16,7 +16,7 @@ pub(crate) fn store(
     xs: &mut [i32; 256],
     ys: &mut [i32; 256],
 )
-    ensures { λ _. ⌜ tableOf (now (states .exit)) (now (xs .exit)) (now (ys .exit)) ≡ withContact (tableOf (now (states .entry)) (now (xs .entry)) (now (ys .entry))) id state place ⌝ }
+    ensures { λ _. ⌜ tableFrom (now (states .exit)) (now (xs .exit)) (now (ys .exit)) ≡ withContact (tableFrom (now (states .entry)) (now (xs .entry)) (now (ys .entry))) id state place ⌝ }
 {
     let i = id as usize;
     let x = place.x;
@@ -33,7 +33,7 @@ pub fn move_contact(
     xs: &mut [i32; 256],
     ys: &mut [i32; 256],
 )
-    ensures { λ _. ⌜ Moves contact (tableOf (now (states .entry)) (now (xs .entry)) (now (ys .entry))) (tableOf (now (states .exit)) (now (xs .exit)) (now (ys .exit))) ⌝ }
+    ensures { λ _. ⌜ Moves contact (tableFrom (now (states .entry)) (now (xs .entry)) (now (ys .entry))) (tableFrom (now (states .exit)) (now (xs .exit)) (now (ys .exit))) ⌝ }
 {
     let i = contact.id as usize;
     let state = states::next_state(contact.flags, states[i]);
@@ -54,7 +54,7 @@ pub fn apply(
     xs: &mut [i32; 256],
     ys: &mut [i32; 256],
 ) -> usize
-    ensures { λ r. ⌜ Applies n (now (rest .entry)) r (tableOf (now (states .entry)) (now (xs .entry)) (now (ys .entry))) (tableOf (now (states .exit)) (now (xs .exit)) (now (ys .exit))) ⌝ }
+    ensures { λ r. ⌜ Applies n (now (rest .entry)) r (tableFrom (now (states .entry)) (now (xs .entry)) (now (ys .entry))) (tableFrom (now (states .exit)) (now (xs .exit)) (now (ys .exit))) ⌝ }
 {
     let mut at: usize = 0;
     let mut left = n;
@@ -72,7 +72,7 @@ pub fn apply(
 
 // Every contact goes out of range.
 pub fn rest_all(states: &mut [u8; 256], xs: &mut [i32; 256], ys: &mut [i32; 256])
-    ensures { λ _. ⌜ tableOf (now (states .exit)) (now (xs .exit)) (now (ys .exit)) ≡ resting ⌝ }
+    ensures { λ _. ⌜ tableFrom (now (states .exit)) (now (xs .exit)) (now (ys .exit)) ≡ resting ⌝ }
 {
     *states = [states::OUT; 256];
     *xs = [0; 256];

@@ -8,7 +8,7 @@ use lib.ListN.{length}
 use Rattle.paper.specs.Refusals.{noRoom}
 use Rattle.slices.specs.Writing.{laid, given, left}
 use Rattle.formats.specs.Format.{Got, got, bad}
-use Rattle.contacts.specs.Table.{Table}
+use Rattle.machine.specs.Table.{Table}
 use Rattle.receiver.specs.declared.Receiver.{Receiver}
 use Rattle.receiver.specs.declared.Received.{Received}
 use Rattle.receiver.specs.declared.Turn.{Turn}

@@ -25,14 +25,15 @@ use Rattle.messages.specs.declared.ReadDismiss.{ReadDismiss}
 use Rattle.messages.specs.declared.ReadDismiss.the-variants as id
 use Rattle.messages.specs.declared.Ready.{Ready}
 use Rattle.messages.proofs.Laws.{headed-same, headed-got, one-of-one, one-of-later}
-use Rattle.contacts.specs.Table.{Table}
-use Rattle.contacts.specs.Machine.{dismissBytes}
+use Rattle.machine.specs.Table.{Table}
+use Rattle.machine.specs.Machine.{dismissBytes}
 use Rattle.moves.specs.Moves.{dismissedIn, Dismisses}
 use Rattle.receiver.specs.declared.Receiver.{Receiver}
 use Rattle.receiver.specs.declared.Received.{Received}
 use Rattle.receiver.specs.Receive.{off, takes, withTable, machineOf, settled, dismissedBy, effect, refusal}
 use Rattle.receiver.specs.Events.{Gives, readyEffect, touchEffect, dismissEffect}
 use Rattle.receiver.proofs.Answering.{gives-refused, gives-none, gives-done}
+use Rattle.contacts.specs.Touch.{touchView}
 
 -- ---- by the header
 
@@ -107,7 +108,7 @@ module _ (r : Receiver) (b : List ℕ) (x : ReadDismiss) (g : dismissGot x ≡ w
   dismiss-taken k v u after e m a = go (leb (length s) (length before)) refl
     where
       s : List ℕ
-      s = dismissBytes (machineOf r .table) k
+      s = dismissBytes touchView (machineOf r .table) k
 
       w : whole byte trailing b ≡ got k []
       w = sym g ∙ ap dismissGot e

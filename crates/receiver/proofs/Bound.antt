@@ -17,14 +17,15 @@ use Rattle.messages.specs.Header.{headed, headerBytes, clientReady, touch}
 use Rattle.messages.specs.Bodies.{ready}
 use Rattle.messages.proofs.Laws.{headed-got}
 use Rattle.touch.specs.Touch.{body}
-use Rattle.contacts.specs.Table.{Table, contacts, stateAt}
-use Rattle.contacts.specs.Machine.{dismissBytes}
-use Rattle.contacts.proofs.Machine.{keep-bytes}
+use Rattle.machine.specs.Table.{Table, contacts, stateAt}
+use Rattle.machine.specs.Machine.{dismissBytes}
+use Rattle.machine.proofs.Machine.{keep-bytes}
 use Rattle.moves.proofs.Dismissal.{dismiss-length}
 use Rattle.receiver.specs.declared.Receiver.{Receiver}
 use Rattle.receiver.specs.Receive.{Effect, takes, machineOf, judged, settled, touched, dismissedBy, bodyEffect, effect}
 use Rattle.receiver.specs.Events.{readyEffect, touchEffect, dismissEffect}
 use Rattle.receiver.proofs.Weight.{touch-small}
+use Rattle.contacts.specs.Touch.{touchView}
 
 -- 48 KiB
 abbrev pub mostOutput : ℕ
@@ -36,12 +37,12 @@ from-body : {A : Type 0} (f : A → Effect) (x : Got A) (e : Effect) (t : List �
 from-body f (bad n) e t h k = never n e t h
 from-body f (got a u) e t h k = let q : f a ≡ e = cc in rw q at (k a u refl)
 
-dismiss-small : (t : Table) (id : ℕ) → length (dismissBytes t id) ≤ mostOutput
+dismiss-small : (t : Table) (id : ℕ) → length (dismissBytes touchView t id) ≤ mostOutput
 dismiss-small t id = go (eqb (stateAt t id) hovering) refl
   where
-    go : (b : Bool) → eqb (stateAt t id) hovering ≡ b → length (dismissBytes t id) ≤ mostOutput
+    go : (b : Bool) → eqb (stateAt t id) hovering ≡ b → length (dismissBytes touchView t id) ≤ mostOutput
     go true e = omega (arith, dismiss-length t id (eqb-true (stateAt t id) hovering e))
-    go false e = rw (keep-bytes t id (eqb-false (stateAt t id) hovering e)) (omega arith)
+    go false e = rw (keep-bytes touchView t id (eqb-false (stateAt t id) hovering e)) (omega arith)
 
 module _ (r : Receiver) (h : length (r .states) ≡ contacts) where
   body-small : (n : ℕ) (b : List ℕ) (e : Effect) (t : List ℕ) → length b ≤ 4090 → bodyEffect r n b ≡ got e t → length (e .bytes) ≤ mostOutput

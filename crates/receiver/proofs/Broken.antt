@@ -7,14 +7,14 @@ use lib.IntN.{pos}
 use Rattle.states.specs.Table.{next, placeOf, from, out}
 use Rattle.house.specs.declared.Record.{Record}
 use Rattle.house.specs.declared.Record.the-variants as Record
-use Rattle.contacts.specs.Table.{origin}
-use Rattle.contacts.specs.Conforms.{sameNumber}
-use Rattle.contacts.specs.Machine.{stored}
+use Rattle.machine.specs.Table.{origin}
+use Rattle.machine.specs.Conforms.{sameNumber}
+use Rattle.contacts.specs.Touch.{bareContact}
 use Rattle.receiver.specs.History.{Path, at, broken, pathStep, path}
 
 -- a record of contact 1
 abbrev one : ℕ → ℕ → ℕ → ℕ → Record
-one kind flags x y = Record.Contact kind (stored flags 1 (record { x = pos x; y = pos y }))
+one kind flags x y = Record.Contact kind (bareContact flags 1 (record { x = pos x; y = pos y }))
 
 -- the path of contact 1 from out of range
 abbrev walked : List Record → Path

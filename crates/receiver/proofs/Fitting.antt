@@ -2,8 +2,8 @@
 -- Assumes nothing.
 use Prim.Native.Nat.{ℕ, zero, suc}
 use mathlib.Core.Path.{_≡_, refl}
-use mathlib.Core.Bool.{Bool, true, false, cond}
-use mathlib.Core.List.{List, [], _∷_, map}
+use mathlib.Core.Bool.{Bool, true, false}
+use mathlib.Core.List.{List, [], _∷_}
 use lib.Dec.{lit<}
 use Rattle.digits.specs.Digits.{Bytes}
 use Rattle.formats.specs.Format.{Got, got, bad, Format, readSeries}
@@ -12,14 +12,12 @@ use Rattle.fields.specs.Integers.{strict}
 use Rattle.fields.proofs.Laws.{strict-law}
 use Rattle.house.specs.Fits.{HeadFits, ContactFits}
 use Rattle.house.specs.declared.Contact.{Contact}
-use Rattle.framing.specs.Frame.{Frame, headOf, withoutOffset}
+use Rattle.framing.specs.Frame.{Frame, headOf, timedFrames, timedFrame}
 use Rattle.touch.specs.Touch.{Touch, contact, frame, touchHead, touch, body}
 use Rattle.touch.specs.declared.TouchHead.{TouchHead}
 use Rattle.touch.proofs.Laws.{contact-law, frame-head-law, frame-law, touch-head-law}
 use Rattle.touch.proofs.Passes.{body-got, frame-got}
 use Rattle.touch.proofs.Ranges.{contact-read, frame-fits}
-use Rattle.receiver.specs.declared.Receiver.{Receiver}
-use Rattle.receiver.specs.Receive.{untimed, framesFor}
 
 -- each of a list
 abbrev pub All : {A : Type 0} → (A → Type 0) → List A → Type 0
@@ -63,15 +61,11 @@ body-fits judged l m t hl e = go (touchHead strict .read l) refl
         all-read (frame strict) FrameFits (λ b. frame-law strict strict-law b .sound) frame-read judged (k .frames) after (m .frames) [] ha (b .frames)
 
 -- also with offset 0
-without-fits : (fs : List (Frame Contact)) → All FrameFits fs → All FrameFits (map withoutOffset fs)
-without-fits [] h = tt
-without-fits (f ∷ fs) h =
-    (record { head = record { count = h .0 .head .count; offset = lit< tt }; contacts = h .0 .contacts }, without-fits fs (h .1))
+timed-fits : (b : Bool) (f : Frame Contact) → FrameFits f → FrameFits (timedFrame b f)
+timed-fits true f h = record { head = record { count = h .head .count; offset = lit< tt }; contacts = h .contacts }
+timed-fits false f h = h
 
-pub frames-fit : (r : Receiver) (fs : List (Frame Contact)) → All FrameFits fs → All FrameFits (framesFor r fs)
-unfolding framesFor
-frames-fit r fs h = go (untimed r)
-  where
-    go : (b : Bool) → All FrameFits (cond b (map withoutOffset fs) fs)
-    go true = without-fits fs h
-    go false = h
+pub frames-fit : (b : Bool) (fs : List (Frame Contact)) → All FrameFits fs → All FrameFits (timedFrames b fs)
+unfolding timedFrames
+frames-fit b [] h = tt
+frames-fit b (f ∷ fs) h = (timed-fits b f (h .0), frames-fit b fs (h .1))

@@ -13,11 +13,11 @@ use Rattle.formats.specs.Format.{got}
 use Rattle.states.specs.Table.{out, engaged}
 use Rattle.house.specs.declared.Contact.{Contact}
 use Rattle.framing.specs.Frame.{Frame}
-use Rattle.contacts.specs.Table.{contacts, stateAt, placeAt, origin, countActive, resting}
-use Rattle.contacts.specs.Conforms.{Rules}
-use Rattle.contacts.specs.Machine.{Machine, cancelled, verdict, cancels, stepMachine, runMachine, runBytes}
-use Rattle.contacts.proofs.Table.{Whole, resting-state}
-use Rattle.contacts.proofs.Machine.{cancelled-machine}
+use Rattle.machine.specs.Rules.{Rules}
+use Rattle.machine.specs.Table.{contacts, stateAt, placeAt, origin, countActive, resting}
+use Rattle.machine.specs.Machine.{Machine, cancelled, verdict, cancels, stepMachine, runMachine, runBytes}
+use Rattle.machine.proofs.Table.{Whole, resting-state}
+use Rattle.machine.proofs.Machine.{cancelled-machine}
 use Rattle.receiver.specs.Receive.{off, fresh, effect, draftOf, Receives}
 use Rattle.receiver.specs.declared.Receiver.{Receiver}
 use Rattle.receiver.specs.declared.Answer.{Answer}
@@ -29,6 +29,7 @@ use Rattle.receiver.proofs.Rested.{as-rested}
 use Rattle.receiver.proofs.Cutting.{rest-of-message}
 use Rattle.receiver.proofs.Paths.{legal-path}
 use Rattle.receiver.proofs.Refusing.{left-laid, refusal-changes-nothing, refused-as-none}
+use Rattle.contacts.specs.Touch.{touchView}
 
 -- ---- HISTORIES ARE THOSE OF THE CONTRACT
 
@@ -80,20 +81,20 @@ each-contact's-records-are-a-legal-path = legal-path
 -- ---- "AFTER A CANCEL'S OWN RECORDS NOTHING IS WRITTEN UNTIL AN OPENING FRAME"
 
 -- Every cancelled frame leaves all contacts out of range, and the mode ignoring.
-pub a-cancelled-frame-leaves-rest-and-ignoring : (rules : Rules) (m : Machine) (f : Frame Contact) → verdict rules m (f .contacts) ≡ cancelled → stepMachine rules m f ≡ record { table = resting; running = false }
-a-cancelled-frame-leaves-rest-and-ignoring = cancelled-machine
+pub a-cancelled-frame-leaves-rest-and-ignoring : (rules : Rules Contact) (m : Machine) (f : Frame Contact) → verdict touchView rules m (f .contacts) ≡ cancelled → stepMachine touchView rules m f ≡ record { table = resting; running = false }
+a-cancelled-frame-leaves-rest-and-ignoring = cancelled-machine touchView
 
 -- Frames none of which opens leave a machine that ignores as it is, and write nothing.
-pub frames-that-do-not-open-are-ignored : (rules : Rules) (m : Machine) (fs : List (Frame Contact)) → m .running ≡ false → unopened fs ≡ true → (runBytes rules m fs ≡ []) × (runMachine rules m fs ≡ m)
+pub frames-that-do-not-open-are-ignored : (rules : Rules Contact) (m : Machine) (fs : List (Frame Contact)) → m .running ≡ false → unopened fs ≡ true → (runBytes touchView rules m fs ≡ []) × (runMachine touchView rules m fs ≡ m)
 frames-that-do-not-open-are-ignored rules m fs h u = (quiet-bytes rules m fs h u, quiet-machine rules m fs h u)
 
 -- Within a message: after the frames fs, the cancelled frame f writes its records; the frames gs, none of which opens, write nothing; and the
 -- frames hs after them are as to a machine at rest that ignores.
-pub after-a-cancelled-frame-nothing-until-an-opening-one : (rules : Rules) (m : Machine) (fs : List (Frame Contact)) (f : Frame Contact) (gs hs : List (Frame Contact))
-    → verdict rules (runMachine rules m fs) (f .contacts) ≡ cancelled → unopened gs ≡ true
+pub after-a-cancelled-frame-nothing-until-an-opening-one : (rules : Rules Contact) (m : Machine) (fs : List (Frame Contact)) (f : Frame Contact) (gs hs : List (Frame Contact))
+    → verdict touchView rules (runMachine touchView rules m fs) (f .contacts) ≡ cancelled → unopened gs ≡ true
     → let rest : Machine = record { table = resting; running = false } in
-    (runBytes rules m (fs ++ (f ∷ (gs ++ hs))) ≡ (runBytes rules m fs ++ cancels (runMachine rules m fs .table)) ++ runBytes rules rest hs)
-    × (runMachine rules m (fs ++ (f ∷ (gs ++ hs))) ≡ runMachine rules rest hs)
+    (runBytes touchView rules m (fs ++ (f ∷ (gs ++ hs))) ≡ (runBytes touchView rules m fs ++ cancels touchView (runMachine touchView rules m fs .table)) ++ runBytes touchView rules rest hs)
+    × (runMachine touchView rules m (fs ++ (f ∷ (gs ++ hs))) ≡ runMachine touchView rules rest hs)
 after-a-cancelled-frame-nothing-until-an-opening-one rules m fs f gs hs v u = (cancel-bytes rules m fs f gs hs v u, cancel-machine rules m fs f gs hs v u)
 
 -- Over messages: a receiver that ignores and has no active contact writes nothing, dismissals included, and stays so, as long as no opening
@@ -105,7 +106,7 @@ a-silent-receiver-writes-nothing-until-an-opening-frame r h k u = (after-quiet r
 -- no opening frame is accepted, nothing is written but the records of fs and the cancel's own.
 pub after-a-cancel-nothing-until-an-opening-frame : (r : Receiver) (x : Sent) (h : List Sent) (fs : List (Frame Contact)) (f : Frame Contact) (gs : List (Frame Contact))
     → framesTaken r x ≡ fs ++ (f ∷ gs) → CancelledAfter r fs f → unopened gs ≡ true → Unopened (next r x) h
-    → (written r (x ∷ h) ≡ bytesAt r fs ++ cancels (machineAt r fs .table)) × Silent (after r (x ∷ h))
+    → (written r (x ∷ h) ≡ bytesAt r fs ++ cancels touchView (machineAt r fs .table)) × Silent (after r (x ∷ h))
 after-a-cancel-nothing-until-an-opening-frame r x h fs f gs e v u k =
     let s = since-cancel r x h fs f gs e v u k in
     (s .own, s .silent)

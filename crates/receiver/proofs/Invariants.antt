@@ -1,9 +1,9 @@
 -- What is true of a receiver after any history.
 -- Assumes nothing.
-use Prim.Native.Nat.{ℕ, suc, _+_, _≤_}
+use Prim.Native.Nat.{ℕ, _+_, _≤_}
 use mathlib.Core.Path.{_≡_, refl, sym, ap, _∙_}
-use mathlib.Core.Bool.{Bool, true, false, cond, not}
-use mathlib.Core.List.{List, [], _∷_, map}
+use mathlib.Core.Bool.{Bool, true, false, not}
+use mathlib.Core.List.{List, [], _∷_}
 use native.Mathlib.Omega.{arith}
 use borrow.Author.Tests.{eqb-false}
 use lib.ListN.{length, drop}
@@ -13,19 +13,21 @@ use Rattle.messages.specs.Header.{headerBytes}
 use Rattle.formats.specs.Format.{got}
 use Rattle.fields.specs.Integers.{strict}
 use Rattle.house.specs.declared.Contact.{Contact}
-use Rattle.framing.specs.Frame.{Frame, withoutOffset}
+use Rattle.framing.proofs.Timed.{timed-length}
+use Rattle.framing.specs.Frame.{Frame, timedFrames}
 use Rattle.touch.specs.Touch.{Touch, body}
-use Rattle.contacts.specs.Table.{Table, resting, countActive}
-use Rattle.contacts.specs.Machine.{runMachine, runBytes}
-use Rattle.contacts.proofs.Table.{resting-count}
-use Rattle.contacts.proofs.Machine.{counts-total}
+use Rattle.machine.specs.Table.{Table, resting, countActive}
+use Rattle.machine.specs.Machine.{runMachine, runBytes}
+use Rattle.machine.proofs.Table.{resting-count}
+use Rattle.machine.proofs.Machine.{counts-total}
 use Rattle.receiver.specs.declared.Receiver.{Receiver}
 use Rattle.receiver.specs.declared.Answer.{Answer}
-use Rattle.receiver.specs.Receive.{off, mark, rulesOf, machineOf, fresh, untimed, framesFor, touched, judged}
+use Rattle.receiver.specs.Receive.{off, mark, rulesOf, machineOf, fresh, untimed, touched, judged}
 use Rattle.receiver.specs.History.{Sent, OfBytes, next, answerTo, after, tableOf, framesTaken}
 use Rattle.receiver.proofs.Became.{true-not-false, Became, became, refused, settles, touches, dismisses}
 use Rattle.receiver.proofs.Fitting.{All, FrameFits, body-fits, frames-fit}
 use Rattle.receiver.proofs.Steadiness.{Steady, run-steady, resting-sound, dismiss-sound, dismiss-few, dismiss-resting}
+use Rattle.contacts.specs.Touch.{touchView}
 
 -- ---- the machine of a receiver after a touch message is the one that its frames leave
 
@@ -33,13 +35,13 @@ off-mark : (b : Bool) → off (mark (not b)) ≡ b
 off-mark true = refl
 off-mark false = refl
 
-pub machine-touched : (r : Receiver) (m : Touch) → machineOf (touched r m .receiver) ≡ runMachine (rulesOf r) (machineOf r) (framesFor r (m .frames))
+pub machine-touched : (r : Receiver) (m : Touch) → machineOf (touched r m .receiver) ≡ runMachine touchView (rulesOf r) (machineOf r) (timedFrames (untimed r) (m .frames))
 unfolding touched
 machine-touched r m =
-    let a = runMachine (rulesOf r) (machineOf r) (framesFor r (m .frames)) in
+    let a = runMachine touchView (rulesOf r) (machineOf r) (timedFrames (untimed r) (m .frames)) in
     λ i. record { table = a .table; running = off-mark (a .running) i }
 
-pub bytes-touched : (r : Receiver) (m : Touch) → touched r m .bytes ≡ runBytes (rulesOf r) (machineOf r) (framesFor r (m .frames))
+pub bytes-touched : (r : Receiver) (m : Touch) → touched r m .bytes ≡ runBytes touchView (rulesOf r) (machineOf r) (timedFrames (untimed r) (m .frames))
 unfolding touched
 bytes-touched r m = refl
 
@@ -60,8 +62,8 @@ fresh-kept =
     }
 
 -- the frames of a message that a receiver reads fit its records
-pub message-fits : (r : Receiver) (l : List ℕ) (m : Touch) (t : List ℕ) → Bytes l → body strict (judged r) (drop headerBytes l) ≡ got m t → All FrameFits (framesFor r (m .frames))
-message-fits r l m t hl e = frames-fit r (m .frames) (body-fits (judged r) (drop headerBytes l) m t (bytes-drop headerBytes l hl) e)
+pub message-fits : (r : Receiver) (l : List ℕ) (m : Touch) (t : List ℕ) → Bytes l → body strict (judged r) (drop headerBytes l) ≡ got m t → All FrameFits (timedFrames (untimed r) (m .frames))
+message-fits r l m t hl e = frames-fit (untimed r) (m .frames) (body-fits (judged r) (drop headerBytes l) m t (bytes-drop headerBytes l hl) e)
 
 became-kept : (r : Receiver) (l : List ℕ) {q : Receiver} {s : List ℕ} {a : Answer} {fs : List (Frame Contact)} → Bytes l → Kept r → Became r l q s a fs → Kept q
 unfolding touched
@@ -75,7 +77,7 @@ became-kept r l hl k (settles s o) =
     }
 became-kept r l hl k (touches m t o e) =
     record {
-      machine = rw (machine-touched r m) (run-steady (r .settings .most) (machineOf r) (framesFor r (m .frames)) (message-fits r l m t hl e) (k .machine));
+      machine = rw (machine-touched r m) (run-steady (r .settings .most) (machineOf r) (timedFrames (untimed r) (m .frames)) (message-fits r l m t hl e) (k .machine));
       ready = k .ready;
       unready = λ u. true-not-false (sym o ∙ u);
     }
@@ -107,23 +109,11 @@ ready-one r k o = omega (arith, k .ready, eqb-false (r .ready) 0 o)
 
 -- ---- the counts of a message
 
-map-length : (fs : List (Frame Contact)) → length (map withoutOffset fs) ≡ length fs
-map-length [] = refl
-map-length (f ∷ fs) = ap suc (map-length fs)
-
-frames-length : (r : Receiver) (fs : List (Frame Contact)) → length (framesFor r fs) ≡ length fs
-unfolding framesFor
-frames-length r fs = go (untimed r)
-  where
-    go : (b : Bool) → length (cond b (map withoutOffset fs) fs) ≡ length fs
-    go true = map-length fs
-    go false = refl
-
 became-counts : (r : Receiver) (l : List ℕ) {q : Receiver} {s : List ℕ} {a : Answer} {fs : List (Frame Contact)} → Became r l q s a fs → a .injected + a .ignored + a .cancelled ≡ length fs
 unfolding touched
 became-counts r l (refused n) = refl
 became-counts r l (settles s o) = refl
-became-counts r l (touches m t o e) = counts-total (rulesOf r) (machineOf r) (framesFor r (m .frames)) ∙ frames-length r (m .frames)
+became-counts r l (touches m t o e) = counts-total touchView (rulesOf r) (machineOf r) (timedFrames (untimed r) (m .frames)) ∙ timed-length (untimed r) (m .frames)
 became-counts r l (dismisses id t o e) = refl
 
 pub answer-counts : (r : Receiver) (x : Sent) → answerTo r x .injected + answerTo r x .ignored + answerTo r x .cancelled ≡ length (framesTaken r x)

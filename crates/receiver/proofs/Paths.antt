@@ -22,22 +22,23 @@ use Rattle.house.specs.declared.Contact.{Contact}
 use Rattle.house.specs.declared.Record.{Record}
 use Rattle.house.specs.declared.Record.the-variants as Record
 use Rattle.house.proofs.Round.{length-head, length-contact, record-of-head, record-of-contact}
-use Rattle.framing.specs.Frame.{Frame, headOf, contactsBytes, frameBytes}
+use Rattle.framing.specs.Frame.{Frame, headOf, contactsBytes, frameBytes, timedFrames}
 use Rattle.touch.specs.Touch.{touchRecord}
-use Rattle.contacts.specs.Table.{Table, contacts, stateAt, placeAt, withContact, origin, resting, active}
-use Rattle.contacts.specs.Conforms.{every, distinct, nextOf, legal, sameNumber, samePlace, stays, placeIn, moved, after}
-use Rattle.contacts.specs.Machine.{Machine, stored, cancelFlags, cancelBytes, cancelsFrom, cancels, stepMachine, stepBytes, runMachine, runBytes, dismissTable, dismissBytes}
-use Rattle.contacts.proofs.Table.{state-same, place-same, state-other, place-other, resting-state, resting-place}
-use Rattle.contacts.proofs.Conforms.{every-first, every-others, distinct-first, distinct-others, legal-behind, stays-behind}
-use Rattle.contacts.proofs.Machine.{cancel-active, cancel-out}
+use Rattle.machine.specs.Table.{Table, contacts, stateAt, placeAt, withContact, origin, resting, active}
+use Rattle.machine.specs.Conforms.{every, distinct, nextOf, legal, sameNumber, samePlace, stays, placeIn, moved, tableAfter}
+use Rattle.machine.specs.Machine.{Machine, cancelFlags, cancelBytes, cancelsFrom, cancels, stepMachine, stepBytes, runMachine, runBytes, dismissTable, dismissBytes}
+use Rattle.machine.proofs.Table.{state-same, place-same, state-other, place-other, resting-state, resting-place}
+use Rattle.machine.proofs.Conforms.{every-first, every-others, distinct-first, distinct-others, legal-behind, stays-behind}
+use Rattle.machine.proofs.Machine.{cancel-active, cancel-out}
 use Rattle.receiver.specs.declared.Receiver.{Receiver}
 use Rattle.receiver.specs.declared.Answer.{Answer}
-use Rattle.receiver.specs.Receive.{machineOf, fresh, framesFor, touched}
+use Rattle.receiver.specs.Receive.{machineOf, fresh, touched, untimed}
 use Rattle.receiver.specs.History.{Sent, OfBytes, next, wrote, written, after as afterAll, tableOf, recordsFrom, recordsIn, Path, at, andOn, mayStep, stepped, pathStep, path}
 use Rattle.receiver.proofs.Fitting.{All, FrameFits}
-use Rattle.receiver.proofs.Steadiness.{PlaceFits, Sound, Conforming, conforming, ruled, moved-sound, Judged, judged, injects, ignores, Steady, step-steady, beyond}
+use Rattle.receiver.proofs.Steadiness.{PlaceFits, Sound, Conforming, conforming, moved-sound, Judged, judged, injects, ignores, Steady, step-steady, beyond}
 use Rattle.receiver.proofs.Became.{true-not-false, Became, became, refused, settles, touches, dismisses}
 use Rattle.receiver.proofs.Invariants.{Kept, fresh-kept, next-kept, message-fits}
+use Rattle.contacts.specs.Touch.{touchView, touchRules, bareContact}
 
 -- ---- records, one after the other
 
@@ -92,15 +93,15 @@ module _ (kind : ℕ) (c : Contact) (low : 1 ≤ kind) (high : kind < 4) (f : Co
 -- ---- the contacts of a frame that conforms
 
 module _ (most id : ℕ) where
-  may-step : (t : Table) (c : Contact) → legal (ruled most) t c ≡ true → stays t c ≡ true → mayStep touchKind c (stateAt t (c .id)) (placeAt t (c .id)) ≡ true
-  may-step t c l k = rw (not-true (eqb (nextOf (ruled most) t c) illegal) l) k
+  may-step : (t : Table) (c : Contact) → legal touchView states.next t c ≡ true → stays touchView t c ≡ true → mayStep touchKind c (stateAt t (c .id)) (placeAt t (c .id)) ≡ true
+  may-step t c l k = rw (not-true (eqb (nextOf touchView states.next t c) illegal) l) k
 
-  moved-leads : (t : Table) (c : Contact) → Sound t → ContactFits c → legal (ruled most) t c ≡ true → stays t c ≡ true → Moves id t (contactBytes touchKind c) (moved (ruled most) t c)
+  moved-leads : (t : Table) (c : Contact) → Sound t → ContactFits c → legal touchView states.next t c ≡ true → stays touchView t c ≡ true → Moves id t (contactBytes touchKind c) (moved touchView states.next t c)
   unfolding moved
   moved-leads t c h f l k = go (eqb (c .id) id) refl
     where
       s : ℕ
-      s = nextOf (ruled most) t c
+      s = nextOf touchView states.next t c
 
       q : Point
       q = placeIn s (c .place)
@@ -115,23 +116,23 @@ module _ (most id : ℕ) where
           rw (state-other t (c .id) s q id (λ z. n (sym z)), place-other t (c .id) s q id (λ z. n (sym z)))
           (other-leads touchKind c (omega arith) (omega arith) f id (stateAt t id) (placeAt t id) n)
 
-  contacts-lead : (t : Table) (cs : List Contact) → Sound t → All ContactFits cs → distinct cs ≡ true → every (legal (ruled most) t) cs ≡ true → every (stays t) cs ≡ true
-      → Moves id t (contactsBytes touchRecord cs) (after (ruled most) t cs)
-  unfolding contactsBytes after
+  contacts-lead : (t : Table) (cs : List Contact) → Sound t → All ContactFits cs → distinct touchView cs ≡ true → every (legal touchView states.next t) cs ≡ true → every (stays touchView t) cs ≡ true
+      → Moves id t (contactsBytes touchRecord cs) (tableAfter touchView states.next t cs)
+  unfolding contactsBytes tableAfter
   contacts-lead t [] h f d l k = leads-none id (stateAt t id) (placeAt t id)
   contacts-lead t (c ∷ cs) h f d l k =
-      let u = moved (ruled most) t c in
-      let lc = every-first (legal (ruled most) t) c cs l in
-      let o = distinct-first c cs d in
+      let u = moved touchView states.next t c in
+      let lc = every-first (legal touchView states.next t) c cs l in
+      let o = distinct-first touchView c cs d in
       let i =
-      contacts-lead u cs (moved-sound most t c h (f .0) lc) (f .1) (distinct-others c cs d)
-      (legal-behind (ruled most) t c cs o ∙ every-others (legal (ruled most) t) c cs l) (stays-behind (ruled most) t c cs o ∙ every-others (stays t) c cs k) in
-      moves-then id t (contactBytes touchKind c) u (contactsBytes touchRecord cs) (after (ruled most) u cs) (moved-leads t c h (f .0) lc (every-first (stays t) c cs k)) i
+      contacts-lead u cs (moved-sound most t c h (f .0) lc) (f .1) (distinct-others touchView c cs d)
+      (legal-behind touchView states.next t c cs o ∙ every-others (legal touchView states.next t) c cs l) (stays-behind touchView states.next t c cs o ∙ every-others (stays touchView t) c cs k) in
+      moves-then id t (contactBytes touchKind c) u (contactsBytes touchRecord cs) (tableAfter touchView states.next u cs) (moved-leads t c h (f .0) lc (every-first (stays touchView t) c cs k)) i
 
-  frame-leads : (t : Table) (f : Frame Contact) → Sound t → FrameFits f → Conforming (ruled most) t (f .contacts) → Moves id t (frameBytes touchRecord f) (after (ruled most) t (f .contacts))
+  frame-leads : (t : Table) (f : Frame Contact) → Sound t → FrameFits f → Conforming (touchRules most) t (f .contacts) → Moves id t (frameBytes touchRecord f) (tableAfter touchView states.next t (f .contacts))
   unfolding frameBytes
   frame-leads t f h hf c =
-      moves-then id t (headBytes (headOf f)) t (contactsBytes touchRecord (f .contacts)) (after (ruled most) t (f .contacts))
+      moves-then id t (headBytes (headOf f)) t (contactsBytes touchRecord (f .contacts)) (tableAfter touchView states.next t (f .contacts))
       (head-leads id (stateAt t id) (placeAt t id) (headOf f) (hf .head))
       (contacts-lead t (f .contacts) h (hf .contacts) (c .distinct) (c .legal) (c .stays))
 
@@ -145,7 +146,7 @@ same-number (negsuc n) = eq-eqb n n refl
 same-place : (p : Point) → samePlace p p ≡ true
 same-place p = rw (same-number (p .x), same-number (p .y))
 
-stored-fits : (flags id : ℕ) (p : Point) → flags < 64 → id < contacts → PlaceFits p → ContactFits (stored flags id p)
+stored-fits : (flags id : ℕ) (p : Point) → flags < 64 → id < contacts → PlaceFits p → ContactFits (bareContact flags id p)
 stored-fits flags id p hf hi hp =
     let zero : Holds 15 (pos 0) = record { holds = lit< tt } in
     record {
@@ -164,12 +165,12 @@ stored-fits flags id p hf hi hp =
 
 -- a record of the stored position, whose flags lead out of range
 module _ (t : Table) (h : Sound t) (kind flags id : ℕ) (high : kind < 4) (low : 2 ≤ kind) (hf : flags < 64) (hi : id < contacts) where
-  stored-other : (k s : ℕ) (p : Point) → (id ≡ k → ⊥) → Leads k s p (contactBytes kind (stored flags id (placeAt t id))) s p
-  stored-other k s p n = other-leads kind (stored flags id (placeAt t id)) (omega arith) high (stored-fits flags id (placeAt t id) hf hi (h .fits id)) k s p n
+  stored-other : (k s : ℕ) (p : Point) → (id ≡ k → ⊥) → Leads k s p (contactBytes kind (bareContact flags id (placeAt t id))) s p
+  stored-other k s p n = other-leads kind (bareContact flags id (placeAt t id)) (omega arith) high (stored-fits flags id (placeAt t id) hf hi (h .fits id)) k s p n
 
-  stored-own : states.next flags (stateAt t id) ≡ out → Leads id (stateAt t id) (placeAt t id) (contactBytes kind (stored flags id (placeAt t id))) out origin
+  stored-own : states.next flags (stateAt t id) ≡ out → Leads id (stateAt t id) (placeAt t id) (contactBytes kind (bareContact flags id (placeAt t id))) out origin
   stored-own e =
-      own-leads kind (stored flags id (placeAt t id)) (omega arith) high (stored-fits flags id (placeAt t id) hf hi (h .fits id)) (stateAt t id) (placeAt t id) out origin
+      own-leads kind (bareContact flags id (placeAt t id)) (omega arith) high (stored-fits flags id (placeAt t id) hf hi (h .fits id)) (stateAt t id) (placeAt t id) out origin
       (rw (e, ne-eqb kind 1 (λ z. omega arith), same-place (placeAt t id)))
       (rw e)
 
@@ -201,57 +202,57 @@ out-of s h = go (eqb s out) refl h
     go false e k = true-not-false (sym k)
 
 module _ (t : Table) (h : Sound t) where
-  cancel-other : (i : ℕ) → i < contacts → (id s : ℕ) (p : Point) → (i ≡ id → ⊥) → Leads id s p (cancelBytes t i) s p
+  cancel-other : (i : ℕ) → i < contacts → (id s : ℕ) (p : Point) → (i ≡ id → ⊥) → Leads id s p (cancelBytes touchView t i) s p
   cancel-other i l id s p n = go (active (stateAt t i)) refl
     where
-      go : (b : Bool) → active (stateAt t i) ≡ b → Leads id s p (cancelBytes t i) s p
-      go true e = rw (cancel-active t i e) (stored-other t h cancelKind (cancelFlags (stateAt t i)) i (lit< tt) (lit≤ tt) (cancel-small (stateAt t i)) l id s p n)
-      go false e = rw (cancel-out t i e) (leads-none id s p)
+      go : (b : Bool) → active (stateAt t i) ≡ b → Leads id s p (cancelBytes touchView t i) s p
+      go true e = rw (cancel-active touchView t i e) (stored-other t h cancelKind (cancelFlags (stateAt t i)) i (lit< tt) (lit≤ tt) (cancel-small (stateAt t i)) l id s p n)
+      go false e = rw (cancel-out touchView t i e) (leads-none id s p)
 
-  cancel-own : (id : ℕ) → id < contacts → Leads id (stateAt t id) (placeAt t id) (cancelBytes t id) out origin
+  cancel-own : (id : ℕ) → id < contacts → Leads id (stateAt t id) (placeAt t id) (cancelBytes touchView t id) out origin
   cancel-own id l = go (active (stateAt t id)) refl
     where
-      go : (b : Bool) → active (stateAt t id) ≡ b → Leads id (stateAt t id) (placeAt t id) (cancelBytes t id) out origin
+      go : (b : Bool) → active (stateAt t id) ≡ b → Leads id (stateAt t id) (placeAt t id) (cancelBytes touchView t id) out origin
       go true e =
-          rw (cancel-active t id e)
+          rw (cancel-active touchView t id e)
           (stored-own t h cancelKind (cancelFlags (stateAt t id)) id (lit< tt) (lit≤ tt) (cancel-small (stateAt t id)) l (cancel-next (stateAt t id) e (h .states id)))
       go false e =
           let z = out-of (stateAt t id) e in
-          rw (cancel-out t id e, z, h .places id z) (leads-none id out origin)
+          rw (cancel-out touchView t id e, z, h .places id z) (leads-none id out origin)
 
   -- ids that are not this one
-  skipped : (n i id s : ℕ) (p : Point) → i + n ≤ contacts → ((k : ℕ) → i ≤ k → k < i + n → k ≡ id → ⊥) → Leads id s p (cancelsFrom t i n) s p
+  skipped : (n i id s : ℕ) (p : Point) → i + n ≤ contacts → ((k : ℕ) → i ≤ k → k < i + n → k ≡ id → ⊥) → Leads id s p (cancelsFrom touchView t i n) s p
   unfolding cancelsFrom
   skipped zero i id s p l d = leads-none id s p
   skipped (suc n) i id s p l d =
-      leads-then id s p (cancelBytes t i) s p (cancelsFrom t (suc i) n) s p
+      leads-then id s p (cancelBytes touchView t i) s p (cancelsFrom touchView t (suc i) n) s p
       (cancel-other i (omega arith) id s p (d i (omega arith) (omega arith)))
       (skipped n (suc i) id s p (omega arith) (λ k a b. d k (omega arith) (omega arith)))
 
   -- ids among which it is
-  passed : (n i id : ℕ) → i + n ≤ contacts → i ≤ id → id < i + n → Leads id (stateAt t id) (placeAt t id) (cancelsFrom t i n) out origin
+  passed : (n i id : ℕ) → i + n ≤ contacts → i ≤ id → id < i + n → Leads id (stateAt t id) (placeAt t id) (cancelsFrom touchView t i n) out origin
   unfolding cancelsFrom
   passed zero i id l a b = absurd (omega arith)
   passed (suc n) i id l a b = go (eqb i id) refl (λ m. passed n (suc i) id (omega arith) m (omega arith))
     where
-      go : (c : Bool) → eqb i id ≡ c → (suc i ≤ id → Leads id (stateAt t id) (placeAt t id) (cancelsFrom t (suc i) n) out origin)
-          → Leads id (stateAt t id) (placeAt t id) (cancelBytes t i ++ cancelsFrom t (suc i) n) out origin
+      go : (c : Bool) → eqb i id ≡ c → (suc i ≤ id → Leads id (stateAt t id) (placeAt t id) (cancelsFrom touchView t (suc i) n) out origin)
+          → Leads id (stateAt t id) (placeAt t id) (cancelBytes touchView t i ++ cancelsFrom touchView t (suc i) n) out origin
       go true e ih =
           let z : i ≡ id = eqb-true _ _ e in
-          leads-then id (stateAt t id) (placeAt t id) (cancelBytes t i) out origin (cancelsFrom t (suc i) n) out origin
+          leads-then id (stateAt t id) (placeAt t id) (cancelBytes touchView t i) out origin (cancelsFrom touchView t (suc i) n) out origin
           (rw z (cancel-own id (omega arith)))
           (skipped n (suc i) id out origin (omega arith) (λ k x y w. omega arith))
       go false e ih =
           let d : i ≡ id → ⊥ = eqb-false _ _ e in
-          leads-then id (stateAt t id) (placeAt t id) (cancelBytes t i) (stateAt t id) (placeAt t id) (cancelsFrom t (suc i) n) out origin
+          leads-then id (stateAt t id) (placeAt t id) (cancelBytes touchView t i) (stateAt t id) (placeAt t id) (cancelsFrom touchView t (suc i) n) out origin
           (cancel-other i (omega arith) id (stateAt t id) (placeAt t id) d) (ih (omega (arith, d)))
 
-  cancels-lead : (id : ℕ) → id < contacts → Moves id t (cancels t) resting
+  cancels-lead : (id : ℕ) → id < contacts → Moves id t (cancels touchView t) resting
   cancels-lead id l = rw (resting-state id, resting-place id) (passed contacts 0 id (lit≤ tt) (omega arith) l)
 
   -- ---- a dismissal
 
-  dismissal-leads : (i id : ℕ) → Moves id t (dismissBytes t i) (dismissTable t i)
+  dismissal-leads : (i id : ℕ) → Moves id t (dismissBytes touchView t i) (dismissTable t i)
   unfolding dismissBytes dismissTable
   dismissal-leads i id = go (eqb (stateAt t i) hovering) refl (ltb i contacts) refl
     where
@@ -259,7 +260,7 @@ module _ (t : Table) (h : Sound t) where
       next-out e = rw e dismiss-next
 
       go : (b : Bool) → eqb (stateAt t i) hovering ≡ b → (c : Bool) → ltb i contacts ≡ c
-          → Moves id t (cond b (contactBytes dismissKind (stored 0x02 i (placeAt t i))) []) (cond b (withContact t i out origin) t)
+          → Moves id t (cond b (contactBytes dismissKind (bareContact 0x02 i (placeAt t i))) []) (cond b (withContact t i out origin) t)
       go false e c l = leads-none id (stateAt t id) (placeAt t id)
       go true e false l =
           let z : stateAt t i ≡ hovering = eqb-true _ _ e in
@@ -269,7 +270,7 @@ module _ (t : Table) (h : Sound t) where
           k : i < contacts
           k = ltb-true _ _ l
 
-          on : (b : Bool) → eqb i id ≡ b → Moves id t (contactBytes dismissKind (stored 0x02 i (placeAt t i))) (withContact t i out origin)
+          on : (b : Bool) → eqb i id ≡ b → Moves id t (contactBytes dismissKind (bareContact 0x02 i (placeAt t i))) (withContact t i out origin)
           on true x =
               let z : i ≡ id = eqb-true _ _ x in
               rw (← z, state-same t i out origin (h .whole) k, place-same t i out origin (h .whole) k)
@@ -290,27 +291,27 @@ unfolding fresh
 fresh-table = refl
 
 module _ (id : ℕ) (l : id < contacts) where
-  step-leads : (most : ℕ) (m : Machine) (f : Frame Contact) → Steady most m → FrameFits f → Moves id (m .table) (stepBytes (ruled most) m f) (stepMachine (ruled most) m f .table)
-  step-leads most m f h hf = go (judged (ruled most) m f)
+  step-leads : (most : ℕ) (m : Machine) (f : Frame Contact) → Steady most m → FrameFits f → Moves id (m .table) (stepBytes touchView (touchRules most) m f) (stepMachine touchView (touchRules most) m f .table)
+  step-leads most m f h hf = go (judged (touchRules most) m f)
     where
-      go : {n : Machine} {s : List ℕ} → Judged (ruled most) m f n s → Moves id (m .table) s (n .table)
-      go (injects c) = frame-leads most id (m .table) f (h .table) hf (conforming (ruled most) (m .table) (f .contacts) c)
+      go : {n : Machine} {s : List ℕ} → Judged (touchRules most) m f n s → Moves id (m .table) s (n .table)
+      go (injects c) = frame-leads most id (m .table) f (h .table) hf (conforming (touchRules most) (m .table) (f .contacts) c)
       go (ignores a b) = leads-none id (stateAt (m .table) id) (placeAt (m .table) id)
       go Judged.cancels = cancels-lead (m .table) (h .table) id l
 
-  run-leads : (most : ℕ) (m : Machine) (fs : List (Frame Contact)) → Steady most m → All FrameFits fs → Moves id (m .table) (runBytes (ruled most) m fs) (runMachine (ruled most) m fs .table)
+  run-leads : (most : ℕ) (m : Machine) (fs : List (Frame Contact)) → Steady most m → All FrameFits fs → Moves id (m .table) (runBytes touchView (touchRules most) m fs) (runMachine touchView (touchRules most) m fs .table)
   unfolding runBytes runMachine
   run-leads most m [] h hf = leads-none id (stateAt (m .table) id) (placeAt (m .table) id)
   run-leads most m (f ∷ fs) h hf =
-      let n = stepMachine (ruled most) m f in
-      moves-then id (m .table) (stepBytes (ruled most) m f) (n .table) (runBytes (ruled most) n fs) (runMachine (ruled most) n fs .table)
+      let n = stepMachine touchView (touchRules most) m f in
+      moves-then id (m .table) (stepBytes touchView (touchRules most) m f) (n .table) (runBytes touchView (touchRules most) n fs) (runMachine touchView (touchRules most) n fs .table)
       (step-leads most m f h (hf .0)) (run-leads most n fs (step-steady most m f (hf .0) h) (hf .1))
 
   became-leads : (r : Receiver) (m : List ℕ) {q : Receiver} {s : List ℕ} {a : Answer} {fs : List (Frame Contact)} → Bytes m → Kept r → Became r m q s a fs → Moves id (tableOf r) s (tableOf q)
   unfolding touched
   became-leads r m b k (refused n) = leads-none id (stateAt (tableOf r) id) (placeAt (tableOf r) id)
   became-leads r m b k (settles s o) = leads-none id (stateAt (tableOf r) id) (placeAt (tableOf r) id)
-  became-leads r m b k (touches t u o e) = run-leads (r .settings .most) (machineOf r) (framesFor r (t .frames)) (k .machine) (message-fits r m t u b e)
+  became-leads r m b k (touches t u o e) = run-leads (r .settings .most) (machineOf r) (timedFrames (untimed r) (t .frames)) (k .machine) (message-fits r m t u b e)
   became-leads r m b k (dismisses i u o e) = dismissal-leads (tableOf r) (k .machine .table) i id
 
   written-leads : (r : Receiver) (h : List Sent) → OfBytes h → Kept r → Moves id (tableOf r) (written r h) (tableOf (afterAll r h))

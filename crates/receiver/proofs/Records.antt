@@ -14,22 +14,24 @@ use Rattle.formats.specs.Format.{Got, got, bad}
 use Rattle.states.specs.Table.{out, hovering}
 use Rattle.house.specs.Fields.{recordBytes}
 use Rattle.house.specs.declared.Contact.{Contact}
-use Rattle.framing.specs.Frame.{Frame}
+use Rattle.house.proofs.Round.{length-contact}
+use Rattle.framing.specs.Frame.{Frame, timedFrames}
 use Rattle.frame_records.proofs.Laws.{length-frame}
-use Rattle.contacts.specs.Table.{Table, contacts, stateAt, origin, withContact}
-use Rattle.contacts.specs.Conforms.{Rules}
-use Rattle.contacts.specs.Machine.{Machine, Verdict, injected, ignored, cancelled, verdict, bytesFor, stepMachine, stepBytes, runMachine, runBytes, dismissTable, dismissBytes}
-use Rattle.contacts.proofs.Machine.{cancels-from-length, keep-bytes}
+use Rattle.machine.specs.Rules.{Rules}
+use Rattle.machine.specs.Table.{Table, contacts, stateAt, origin, withContact}
+use Rattle.machine.specs.Machine.{Machine, Verdict, injected, ignored, cancelled, verdict, bytesFor, stepMachine, stepBytes, runMachine, runBytes, dismissTable, dismissBytes}
+use Rattle.machine.proofs.Machine.{cancels-from-length, keep-bytes}
 use Rattle.moves.proofs.Dismissal.{dismiss-length}
 use Rattle.receiver.specs.declared.Receiver.{Receiver}
 use Rattle.receiver.specs.declared.Answer.{Answer}
-use Rattle.receiver.specs.Receive.{rulesOf, machineOf, framesFor, Effect, touched, effect, draftOf, refusal, answerOf, answerAfter}
+use Rattle.receiver.specs.Receive.{rulesOf, machineOf, Effect, touched, effect, draftOf, refusal, answerOf, answerAfter, untimed}
 use Rattle.receiver.specs.History.{Sent, next, answerTo, wrote, writtenBy}
 use Rattle.receiver.proofs.Became.{Became, became, refused, settles, touches, dismisses}
 use Rattle.receiver.proofs.Bound.{mostOutput, no-message-writes-more}
 use Rattle.receiver.proofs.Invariants.{bytes-touched, machine-touched}
 use Rattle.receiver.proofs.Refusing.{Tame, effect-tame}
 use Rattle.receiver.proofs.Weight.{verdict-long}
+use Rattle.contacts.specs.Touch.{touchView}
 
 -- ---- whole records
 
@@ -40,31 +42,31 @@ record Records (n : ℕ) : Type 0 where
 shared : (n : ℕ) → Records n → recordBytes * (n / recordBytes) ≡ n
 shared n k = omega (arith, k .is)
 
-verdict-records : (m : Machine) (f : Frame Contact) (v : Verdict) → Records (length (bytesFor v m f))
+verdict-records : (m : Machine) (f : Frame Contact) (v : Verdict) → Records (length (bytesFor touchView v m f))
 verdict-records m f injected = record { count = length (f .contacts) + 1; is = length-frame f }
 verdict-records m f ignored = record { count = 0; is = refl }
-verdict-records m f cancelled = record { count = _; is = cancels-from-length (m .table) 0 contacts }
+verdict-records m f cancelled = record { count = _; is = cancels-from-length touchView (m .table) length-contact 0 contacts }
 
-run-records : (rules : Rules) (m : Machine) (fs : List (Frame Contact)) → Records (length (runBytes rules m fs))
+run-records : (rules : Rules Contact) (m : Machine) (fs : List (Frame Contact)) → Records (length (runBytes touchView rules m fs))
 unfolding runBytes stepBytes
 run-records rules m [] = record { count = 0; is = refl }
 run-records rules m (f ∷ fs) =
-    let a = verdict-records m f (verdict rules m (f .contacts)) in
-    let b = run-records rules (stepMachine rules m f) fs in
+    let a = verdict-records m f (verdict touchView rules m (f .contacts)) in
+    let b = run-records rules (stepMachine touchView rules m f) fs in
     record { count = a .count + b .count; is = rw length-append (omega (arith, a .is, b .is)) }
 
-dismiss-records : (t : Table) (id : ℕ) → Records (length (dismissBytes t id))
+dismiss-records : (t : Table) (id : ℕ) → Records (length (dismissBytes touchView t id))
 dismiss-records t id = go (eqb (stateAt t id) hovering) refl
   where
-    go : (b : Bool) → eqb (stateAt t id) hovering ≡ b → Records (length (dismissBytes t id))
+    go : (b : Bool) → eqb (stateAt t id) hovering ≡ b → Records (length (dismissBytes touchView t id))
     go true e = record { count = 1; is = dismiss-length t id (eqb-true (stateAt t id) hovering e) }
-    go false e = record { count = 0; is = ap length (keep-bytes t id (eqb-false (stateAt t id) hovering e)) }
+    go false e = record { count = 0; is = ap length (keep-bytes touchView t id (eqb-false (stateAt t id) hovering e)) }
 
 became-records : (r : Receiver) (l : List ℕ) {q : Receiver} {s : List ℕ} {a : Answer} {fs : List (Frame Contact)} → Became r l q s a fs → recordBytes * a .records ≡ length s
 became-records r l (refused n) = refl
 became-records r l (settles s o) = refl
 became-records r l (touches m t o e) =
-    shared (length (touched r m .bytes)) (rw (bytes-touched r m) (run-records (rulesOf r) (machineOf r) (framesFor r (m .frames))))
+    shared (length (touched r m .bytes)) (rw (bytes-touched r m) (run-records (rulesOf r) (machineOf r) (timedFrames (untimed r) (m .frames))))
 became-records r l (dismisses id t o e) = shared _ (dismiss-records (machineOf r .table) id)
 
 -- "records written"
@@ -113,10 +115,10 @@ module _ (r : Receiver) (h : length (r .states) ≡ contacts) (x : Sent) where
 
 -- ---- all contacts are kept
 
-run-long : (rules : Rules) (m : Machine) (fs : List (Frame Contact)) → length (m .table .states) ≡ contacts → length (runMachine rules m fs .table .states) ≡ contacts
+run-long : (rules : Rules Contact) (m : Machine) (fs : List (Frame Contact)) → length (m .table .states) ≡ contacts → length (runMachine touchView rules m fs .table .states) ≡ contacts
 unfolding runMachine stepMachine
 run-long rules m [] h = h
-run-long rules m (f ∷ fs) h = run-long rules (stepMachine rules m f) fs (verdict-long rules m (f .contacts) (verdict rules m (f .contacts)) h)
+run-long rules m (f ∷ fs) h = run-long rules (stepMachine touchView rules m f) fs (verdict-long rules m (f .contacts) (verdict touchView rules m (f .contacts)) h)
 
 dismiss-long : (t : Table) (id : ℕ) → length (t .states) ≡ contacts → length (dismissTable t id .states) ≡ contacts
 unfolding dismissTable withContact
@@ -130,7 +132,7 @@ became-long : (r : Receiver) (l : List ℕ) {q : Receiver} {s : List ℕ} {a : A
 became-long r l h (refused n) = h
 became-long r l h (settles s o) = h
 became-long r l h (touches m t o e) =
-    ap (λ (n : Machine). length (n .table .states)) (machine-touched r m) ∙ run-long (rulesOf r) (machineOf r) (framesFor r (m .frames)) h
+    ap (λ (n : Machine). length (n .table .states)) (machine-touched r m) ∙ run-long (rulesOf r) (machineOf r) (timedFrames (untimed r) (m .frames)) h
 became-long r l h (dismisses id t o e) = dismiss-long (machineOf r .table) id h
 
 pub next-long : (r : Receiver) → length (r .states) ≡ contacts → (x : Sent) → length (next r x .states) ≡ contacts

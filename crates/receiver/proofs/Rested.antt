@@ -5,8 +5,9 @@ use mathlib.Core.Path.{_≡_, refl, sym, ap, _∙_}
 use mathlib.Core.Bool.{Bool, true, false, cond, not}
 use mathlib.Core.List.{List, [], _∷_, _++_, append-assoc}
 use native.Mathlib.Omega.{arith}
+use borrow.Author.Tests.{ne-eqb}
 use lib.Dec.{leb}
-use lib.ListN.{length, drop}
+use lib.ListN.{length, drop, length-append}
 use Rattle.paper.specs.Refusals.{noRoom}
 use Rattle.slices.specs.Writing.{bytes, given}
 use Rattle.formats.specs.Format.{Got, got, bad}
@@ -16,88 +17,90 @@ use Rattle.digits.proofs.Laws.{bytes-drop}
 use Rattle.fields.specs.Integers.{strict}
 use Rattle.messages.specs.Header.{headerBytes}
 use Rattle.house.specs.declared.Contact.{Contact}
-use Rattle.framing.specs.Frame.{Frame}
+use Rattle.framing.proofs.Timed.{timed-cons, timed-append}
+use Rattle.framing.specs.Frame.{Frame, timedFrames}
 use Rattle.touch.specs.Touch.{Touch, body}
-use Rattle.contacts.specs.Table.{Table, resting}
-use Rattle.contacts.specs.Conforms.{Rules, conforms}
-use Rattle.contacts.specs.Machine.{Machine, injected, cancelled, verdict, machineAfter, bytesFor, stepMachine, stepBytes, runMachine, runBytes}
-use Rattle.contacts.proofs.Machine.{machine-append, bytes-append}
+use Rattle.machine.specs.Rules.{Rules}
+use Rattle.machine.specs.Table.{Table, resting}
+use Rattle.machine.specs.Conforms.{conforms}
+use Rattle.machine.specs.Machine.{Machine, injected, cancelled, verdict, machineAfter, bytesFor, stepMachine, stepBytes, runMachine, runBytes}
+use Rattle.machine.proofs.Machine.{machine-append, bytes-append}
 use Rattle.receiver.specs.declared.Receiver.{Receiver}
 use Rattle.receiver.specs.declared.Answer.{Answer}
-use Rattle.receiver.specs.Receive.{off, mark, rulesOf, machineOf, Effect, framesFor, begunAfter, timeFor, judged, touched, effect, refusal, answerOf, receiverAfter, answerAfter}
+use Rattle.receiver.specs.Receive.{off, mark, rulesOf, machineOf, Effect, judged, touched, effect, refusal, answerOf, receiverAfter, answerAfter, untimed, begunBy, timeBy}
 use Rattle.receiver.specs.History.{Sent, next, answerTo, wrote, after, written, outcomes, messagesOf, Roomy, touchIn, opens, rested, machineAt, bytesAt, Cut, AsRested, NoneActive}
 use Rattle.receiver.proofs.Became.{Does, does, fails, settles, touches, dismisses}
 use Rattle.receiver.proofs.Fitting.{All, FrameFits, body-fits, frames-fit}
 use Rattle.receiver.proofs.Steadiness.{none-active-rests, run-steady}
 use Rattle.receiver.proofs.Invariants.{Kept, ready-one, bytes-touched}
-use Rattle.receiver.proofs.Quiet.{frameFor, frames-one, frames-append, opens-same}
+use Rattle.receiver.proofs.Quiet.{frameFor, opens-same}
+use Rattle.contacts.specs.Touch.{touchView}
 
 -- ---- an opening frame, in either mode
 
-module _ (rules : Rules) (t : Table) (f : Frame Contact) (o : opens f ≡ true) where
+module _ (rules : Rules Contact) (t : Table) (f : Frame Contact) (o : opens f ≡ true) where
   abbrev inMode : Bool → Machine
   inMode b = record { table = t; running = b }
 
-  open-machine : (b : Bool) → stepMachine rules (inMode b) f ≡ stepMachine rules (inMode true) f
+  open-machine : (b : Bool) → stepMachine touchView rules (inMode b) f ≡ stepMachine touchView rules (inMode true) f
   unfolding stepMachine verdict
   open-machine true = refl
-  open-machine false = rw o (go (conforms rules t (f .contacts)))
+  open-machine false = rw o (go (conforms touchView rules t (f .contacts)))
     where
-      go : (c : Bool) → machineAfter (cond c injected cancelled) rules (inMode false) (f .contacts) ≡ machineAfter (cond c injected cancelled) rules (inMode true) (f .contacts)
+      go : (c : Bool) → machineAfter touchView (cond c injected cancelled) (rules .next) (inMode false) (f .contacts) ≡ machineAfter touchView (cond c injected cancelled) (rules .next) (inMode true) (f .contacts)
       go true = refl
       go false = refl
 
-  open-bytes : (b : Bool) → stepBytes rules (inMode b) f ≡ stepBytes rules (inMode true) f
+  open-bytes : (b : Bool) → stepBytes touchView rules (inMode b) f ≡ stepBytes touchView rules (inMode true) f
   unfolding stepBytes verdict
   open-bytes true = refl
-  open-bytes false = rw o (go (conforms rules t (f .contacts)))
+  open-bytes false = rw o (go (conforms touchView rules t (f .contacts)))
     where
-      go : (c : Bool) → bytesFor (cond c injected cancelled) (inMode false) f ≡ bytesFor (cond c injected cancelled) (inMode true) f
+      go : (c : Bool) → bytesFor touchView (cond c injected cancelled) (inMode false) f ≡ bytesFor touchView (cond c injected cancelled) (inMode true) f
       go true = refl
       go false = refl
 
 -- ---- the frames of a message from an opening one on, with no contact active before it
 
-rested-frames : (r : Receiver) (fs : List (Frame Contact)) → framesFor (rested (r .settings)) fs ≡ framesFor r fs
-unfolding rested framesFor
+rested-frames : (r : Receiver) (fs : List (Frame Contact)) → timedFrames (untimed (rested (r .settings))) fs ≡ timedFrames (untimed r) fs
+unfolding rested
 rested-frames r fs = refl
 
-begun-after : (r : Receiver) (fs : List (Frame Contact)) (f : Frame Contact) (gs : List (Frame Contact)) → begunAfter r (fs ++ (f ∷ gs)) ≡ 1
-begun-after r [] f gs = refl
-begun-after r (g ∷ fs) f gs = refl
+begun-after : (begun : ℕ) (fs : List (Frame Contact)) (f : Frame Contact) (gs : List (Frame Contact)) → begunBy begun (length (fs ++ (f ∷ gs))) ≡ 1
+begun-after begun fs f gs = rw (ne-eqb (length (fs ++ (f ∷ gs))) 0 (λ e. omega (arith, length-append fs (f ∷ gs))))
 
 module _ (r : Receiver) (fs : List (Frame Contact)) (f : Frame Contact) (gs : List (Frame Contact)) (o : opens f ≡ true) (z : machineAt r fs .table ≡ resting) where
   abbrev running : Machine
   running = record { table = resting; running = true }
 
-  from-machine : (n : Machine) → n .table ≡ resting → runMachine (rulesOf r) n (framesFor r (f ∷ gs)) ≡ runMachine (rulesOf r) running (framesFor r (f ∷ gs))
+  from-machine : (n : Machine) → n .table ≡ resting → runMachine touchView (rulesOf r) n (timedFrames (untimed r) (f ∷ gs)) ≡ runMachine touchView (rulesOf r) running (timedFrames (untimed r) (f ∷ gs))
   unfolding runMachine
   from-machine n e =
       let p : n ≡ record { table = resting; running = n .running } = λ i. record { table = e i; running = n .running } in
-      let s = ap (λ (k : Machine). stepMachine (rulesOf r) k (frameFor r f)) p ∙ open-machine (rulesOf r) resting (frameFor r f) (opens-same r f ∙ o) (n .running) in
-      rw (frames-one r f gs) (ap (λ (k : Machine). runMachine (rulesOf r) k (framesFor r gs)) s)
+      let s = ap (λ (k : Machine). stepMachine touchView (rulesOf r) k (frameFor r f)) p ∙ open-machine (rulesOf r) resting (frameFor r f) (opens-same r f ∙ o) (n .running) in
+      rw (timed-cons (untimed r) f gs) (ap (λ (k : Machine). runMachine touchView (rulesOf r) k (timedFrames (untimed r) gs)) s)
 
-  from-bytes : (n : Machine) → n .table ≡ resting → runBytes (rulesOf r) n (framesFor r (f ∷ gs)) ≡ runBytes (rulesOf r) running (framesFor r (f ∷ gs))
+  from-bytes : (n : Machine) → n .table ≡ resting → runBytes touchView (rulesOf r) n (timedFrames (untimed r) (f ∷ gs)) ≡ runBytes touchView (rulesOf r) running (timedFrames (untimed r) (f ∷ gs))
   unfolding runBytes
   from-bytes n e =
       let p : n ≡ record { table = resting; running = n .running } = λ i. record { table = e i; running = n .running } in
-      let s = ap (λ (k : Machine). stepMachine (rulesOf r) k (frameFor r f)) p ∙ open-machine (rulesOf r) resting (frameFor r f) (opens-same r f ∙ o) (n .running) in
-      let b = ap (λ (k : Machine). stepBytes (rulesOf r) k (frameFor r f)) p ∙ open-bytes (rulesOf r) resting (frameFor r f) (opens-same r f ∙ o) (n .running) in
-      rw (frames-one r f gs) (λ i. b i ++ runBytes (rulesOf r) (s i) (framesFor r gs))
+      let s = ap (λ (k : Machine). stepMachine touchView (rulesOf r) k (frameFor r f)) p ∙ open-machine (rulesOf r) resting (frameFor r f) (opens-same r f ∙ o) (n .running) in
+      let b = ap (λ (k : Machine). stepBytes touchView (rulesOf r) k (frameFor r f)) p ∙ open-bytes (rulesOf r) resting (frameFor r f) (opens-same r f ∙ o) (n .running) in
+      rw (timed-cons (untimed r) f gs) (λ i. b i ++ runBytes touchView (rulesOf r) (s i) (timedFrames (untimed r) gs))
 
   -- what the rested receiver's machine and bytes are
-  rested-machine : machineAt (rested (r .settings)) (f ∷ gs) ≡ runMachine (rulesOf r) running (framesFor r (f ∷ gs))
-  unfolding rested framesFor
+  rested-machine : machineAt (rested (r .settings)) (f ∷ gs) ≡ runMachine touchView (rulesOf r) running (timedFrames (untimed r) (f ∷ gs))
+  unfolding rested
   rested-machine = refl
 
-  rested-bytes : bytesAt (rested (r .settings)) (f ∷ gs) ≡ runBytes (rulesOf r) running (framesFor r (f ∷ gs))
-  unfolding rested framesFor
+  rested-bytes : bytesAt (rested (r .settings)) (f ∷ gs) ≡ runBytes touchView (rulesOf r) running (timedFrames (untimed r) (f ∷ gs))
+  unfolding rested
   rested-bytes = refl
 
   whole-machine : machineAt r (fs ++ (f ∷ gs)) ≡ machineAt (rested (r .settings)) (f ∷ gs)
   whole-machine =
-      ap (runMachine (rulesOf r) (machineOf r)) (frames-append r fs (f ∷ gs))
-      ∙ (machine-append (rulesOf r) (machineOf r) (framesFor r fs) (framesFor r (f ∷ gs))
+      ap (runMachine touchView (rulesOf r) (machineOf r)) (timed-append (untimed r) fs (f ∷ gs))
+      ∙ (machine-append touchView (rulesOf r) (machineOf r) (timedFrames (untimed r) fs) (timedFrames (untimed r) (f ∷ gs))
       ∙ (from-machine (machineAt r fs) z ∙ sym rested-machine))
 
   module _ (one : r .ready ≡ 1) (m n : Touch) (em : m .frames ≡ fs ++ (f ∷ gs)) (en : n .frames ≡ f ∷ gs) where
@@ -105,7 +108,7 @@ module _ (r : Receiver) (fs : List (Frame Contact)) (f : Frame Contact) (gs : Li
     unfolding touched rested
     rested-receiver =
         let k : machineAt r (m .frames) ≡ machineAt (rested (r .settings)) (n .frames) = rw (em, en) whole-machine in
-        let b = ap (begunAfter r) em ∙ (begun-after r fs f gs ∙ sym (ap (begunAfter (rested (r .settings))) en)) in
+        let b = ap (λ (l : List (Frame Contact)). begunBy (r .begun) (length l)) em ∙ (begun-after (r .begun) fs f gs ∙ sym (ap (λ (l : List (Frame Contact)). begunBy 1 (length l)) en ∙ begun-after 1 [] f gs)) in
         λ i. record {
           ready = one i;
           begun = b i;
@@ -118,10 +121,10 @@ module _ (r : Receiver) (fs : List (Frame Contact)) (f : Frame Contact) (gs : Li
 
     pub rested-written : touched r m .bytes ≡ bytesAt r fs ++ touched (rested (r .settings)) n .bytes
     rested-written =
-        let b : touched (rested (r .settings)) n .bytes ≡ runBytes (rulesOf r) running (framesFor r (f ∷ gs)) = bytes-touched (rested (r .settings)) n ∙ (rw en rested-bytes) in
+        let b : touched (rested (r .settings)) n .bytes ≡ runBytes touchView (rulesOf r) running (timedFrames (untimed r) (f ∷ gs)) = bytes-touched (rested (r .settings)) n ∙ (rw en rested-bytes) in
         bytes-touched r m
-        ∙ (rw em (ap (runBytes (rulesOf r) (machineOf r)) (frames-append r fs (f ∷ gs)))
-        ∙ (bytes-append (rulesOf r) (machineOf r) (framesFor r fs) (framesFor r (f ∷ gs))
+        ∙ (rw em (ap (runBytes touchView (rulesOf r) (machineOf r)) (timed-append (untimed r) fs (f ∷ gs)))
+        ∙ (bytes-append touchView (rulesOf r) (machineOf r) (timedFrames (untimed r) fs) (timedFrames (untimed r) (f ∷ gs))
         ∙ ap (λ (s : List ℕ). bytesAt r fs ++ s) (from-bytes (machineAt r fs) z ∙ sym b)))
 
 -- ---- a message that is not refused for lack of room
@@ -213,7 +216,7 @@ all-front P (a ∷ l) more h = (h .0, all-front P l more (h .1))
 
 time-same : (r : Receiver) (m n : Touch) → m .time ≡ n .time → touched r m .time ≡ touched (rested (r .settings)) n .time
 unfolding touched rested
-time-same r m n e = ap (timeFor r) e
+time-same r m n e = ap (timeBy (untimed r)) e
 
 module _ (r : Receiver) (k : Kept r) (x y : Sent) (b : Bytes (x .message)) (fs : List (Frame Contact)) (f : Frame Contact) (gs : List (Frame Contact)) (c : Cut r x y fs f gs) (o : opens f ≡ true)
     (idle : NoneActive (machineAt r fs .table)) where
@@ -227,7 +230,7 @@ module _ (r : Receiver) (k : Kept r) (x y : Sent) (b : Bytes (x .message)) (fs :
   at-rest : machineAt r fs .table ≡ resting
   at-rest =
       let all = body-fits (judged r) (drop headerBytes (x .message)) whole [] (bytes-drop headerBytes (x .message) b) (touch-body r (x .message) whole [] (c .whole) .1) in
-      let s = run-steady (r .settings .most) (machineOf r) (framesFor r fs) (frames-fit r fs (all-front FrameFits fs (f ∷ gs) all)) (k .machine) in
+      let s = run-steady (r .settings .most) (machineOf r) (timedFrames (untimed r) fs) (frames-fit (untimed r) fs (all-front FrameFits fs (f ∷ gs) all)) (k .machine) in
       none-active-rests (machineAt r fs .table) (s .table) idle
 
   pub as-rested : (more others : List Sent) → messagesOf more ≡ messagesOf others → Roomy r (x ∷ more) → Roomy (rested (r .settings)) (y ∷ others) → AsRested r x y fs more others

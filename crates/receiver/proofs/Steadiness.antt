@@ -19,13 +19,15 @@ use Rattle.house.specs.declared.Point.{Point}
 use Rattle.house.specs.declared.Contact.{Contact}
 use Rattle.framing.specs.Frame.{Frame, frameBytes}
 use Rattle.touch.specs.Touch.{touchRecord}
-use Rattle.contacts.specs.Table.{Table, contacts, stateAt, placeAt, withContact, origin, resting, countActive}
-use Rattle.contacts.specs.Conforms.{Rules, every, distinct, nextOf, legal, stays, placeIn, moved, after, few, conforms}
-use Rattle.contacts.specs.Machine.{Machine, opening, Verdict, injected, ignored, cancelled, verdict, machineAfter, bytesFor, cancels as cancelsOf, stepMachine, stepBytes, runMachine, dismissTable}
-use Rattle.contacts.proofs.Table.{Whole, state-same, state-other, place-same, place-other, with-whole, count-set, resting-whole, resting-state, resting-place, resting-count}
-use Rattle.contacts.proofs.Conforms.{both-left, both-right, every-first, every-others, distinct-first, distinct-others, legal-behind}
+use Rattle.machine.specs.Rules.{Rules}
+use Rattle.machine.specs.Table.{Table, contacts, stateAt, placeAt, withContact, origin, resting, countActive}
+use Rattle.machine.specs.Conforms.{every, distinct, nextOf, legal, stays, placeIn, moved, tableAfter, few, conforms}
+use Rattle.machine.specs.Machine.{Machine, opening, Verdict, injected, ignored, cancelled, verdict, machineAfter, bytesFor, cancels as cancelsOf, stepMachine, stepBytes, runMachine, dismissTable}
+use Rattle.machine.proofs.Table.{Whole, state-same, state-other, place-same, place-other, with-whole, count-set, resting-whole, resting-state, resting-place, resting-count}
+use Rattle.machine.proofs.Conforms.{both-left, both-right, every-first, every-others, distinct-first, distinct-others, legal-behind}
 use Rattle.receiver.proofs.Became.{true-not-false}
 use Rattle.receiver.proofs.Fitting.{All, FrameFits}
+use Rattle.contacts.specs.Touch.{touchView, touchRules}
 
 -- ---- the state table leads to one of three states, or to none
 
@@ -107,22 +109,23 @@ module _ (t : Table) (id s : ℕ) (p : Point) (h : Sound t) (l : id < contacts) 
 
 -- ---- a frame that conforms
 
-pub record Conforming (rules : Rules) (t : Table) (cs : List Contact) : Type 0 where
-  pub distinct : distinct cs ≡ true
-  pub legal : every (legal rules t) cs ≡ true
-  pub stays : every (stays t) cs ≡ true
-  pub few : countActive (after rules t cs .states) ≤ rules .most
+pub record Conforming (rules : Rules Contact) (t : Table) (cs : List Contact) : Type 0 where
+  pub distinct : distinct touchView cs ≡ true
+  pub legal : every (legal touchView (rules .next) t) cs ≡ true
+  pub stays : every (stays touchView t) cs ≡ true
+  pub few : countActive (tableAfter touchView (rules .next) t cs .states) ≤ rules .most
 
-pub conforming : (rules : Rules) (t : Table) (cs : List Contact) → conforms rules t cs ≡ true → Conforming rules t cs
+pub conforming : (rules : Rules Contact) (t : Table) (cs : List Contact) → conforms touchView rules t cs ≡ true → Conforming rules t cs
 unfolding conforms
 conforming rules t cs h =
-    let a = both-right (distinct cs) _ h in
-    let b = both-right (every (legal rules t) cs) _ a in
+    let a = both-right (distinct touchView cs) _ h in
+    let b = both-right (every (legal touchView (rules .next) t) cs) _ a in
+    let c = both-right (every (stays touchView t) cs) _ b in
     record {
-      distinct = both-left (distinct cs) _ h;
-      legal = both-left (every (legal rules t) cs) _ a;
-      stays = both-left (every (stays t) cs) _ b;
-      few = leb-true _ _ (both-right (every (stays t) cs) _ b);
+      distinct = both-left (distinct touchView cs) _ h;
+      legal = both-left (every (legal touchView (rules .next) t) cs) _ a;
+      stays = both-left (every (stays touchView t) cs) _ b;
+      few = leb-true _ _ (both-right (every (rules .passes) cs) _ c);
     }
 
 pub place-in : (s : ℕ) (p : Point) → s ≡ out → placeIn s p ≡ origin
@@ -137,47 +140,44 @@ place-in-fits s p h = go (eqb s out)
 
 -- ---- the rules of a receiver
 
-abbrev pub ruled : ℕ → Rules
-ruled most = record { next = next; most = most }
-
 module _ (most : ℕ) where
-  abbrev rules : Rules
-  rules = ruled most
+  abbrev rules : Rules Contact
+  rules = touchRules most
 
-  pub legal-small : (t : Table) (c : Contact) → legal rules t c ≡ true → nextOf rules t c ≤ 2
+  pub legal-small : (t : Table) (c : Contact) → legal touchView (rules .next) t c ≡ true → nextOf touchView (rules .next) t c ≤ 2
   legal-small t c h =
-      let n : nextOf rules t c ≡ illegal → ⊥ = eqb-false _ _ (not-true _ h) in
+      let n : nextOf touchView (rules .next) t c ≡ illegal → ⊥ = eqb-false _ _ (not-true _ h) in
       omega (arith, next-small (c .flags) (stateAt t (c .id)), n)
 
-  pub moved-sound : (t : Table) (c : Contact) → Sound t → ContactFits c → legal rules t c ≡ true → Sound (moved rules t c)
+  pub moved-sound : (t : Table) (c : Contact) → Sound t → ContactFits c → legal touchView (rules .next) t c ≡ true → Sound (moved touchView (rules .next) t c)
   unfolding moved
   moved-sound t c h f l =
-      let s = nextOf rules t c in
+      let s = nextOf touchView (rules .next) t c in
       with-sound t (c .id) s (placeIn s (c .place)) h (f .id) (legal-small t c l) (place-in s (c .place)) (place-in-fits s (c .place) (record { x = f .x; y = f .y }))
 
-  pub after-sound : (t : Table) (cs : List Contact) → Sound t → All ContactFits cs → distinct cs ≡ true → every (legal rules t) cs ≡ true → Sound (after rules t cs)
-  unfolding after
+  pub after-sound : (t : Table) (cs : List Contact) → Sound t → All ContactFits cs → distinct touchView cs ≡ true → every (legal touchView (rules .next) t) cs ≡ true → Sound (tableAfter touchView (rules .next) t cs)
+  unfolding tableAfter
   after-sound t [] h f d l = h
   after-sound t (c ∷ cs) h f d l =
-      let m = moved-sound t c h (f .0) (every-first (legal rules t) c cs l) in
-      let k = legal-behind rules t c cs (distinct-first c cs d) ∙ every-others (legal rules t) c cs l in
-      after-sound (moved rules t c) cs m (f .1) (distinct-others c cs d) k
+      let m = moved-sound t c h (f .0) (every-first (legal touchView (rules .next) t) c cs l) in
+      let k = legal-behind touchView (rules .next) t c cs (distinct-first touchView c cs d) ∙ every-others (legal touchView (rules .next) t) c cs l in
+      after-sound (moved touchView (rules .next) t c) cs m (f .1) (distinct-others touchView c cs d) k
 
 -- ---- what becomes of a frame: the machine and the bytes
 
-pub data Judged (rules : Rules) (m : Machine) (f : Frame Contact) : Machine → List ℕ → Type 0 where
-  injects : conforms rules (m .table) (f .contacts) ≡ true → Judged rules m f (record { table = after rules (m .table) (f .contacts); running = true }) (frameBytes touchRecord f)
-  ignores : m .running ≡ false → opening (f .contacts) ≡ false → Judged rules m f m []
-  cancels : Judged rules m f (record { table = resting; running = false }) (cancelsOf (m .table))
+pub data Judged (rules : Rules Contact) (m : Machine) (f : Frame Contact) : Machine → List ℕ → Type 0 where
+  injects : conforms touchView rules (m .table) (f .contacts) ≡ true → Judged rules m f (record { table = tableAfter touchView (rules .next) (m .table) (f .contacts); running = true }) (frameBytes touchRecord f)
+  ignores : m .running ≡ false → opening touchView (f .contacts) ≡ false → Judged rules m f m []
+  cancels : Judged rules m f (record { table = resting; running = false }) (cancelsOf touchView (m .table))
 
-pub judged : (rules : Rules) (m : Machine) (f : Frame Contact) → Judged rules m f (stepMachine rules m f) (stepBytes rules m f)
+pub judged : (rules : Rules Contact) (m : Machine) (f : Frame Contact) → Judged rules m f (stepMachine touchView rules m f) (stepBytes touchView rules m f)
 unfolding stepMachine stepBytes verdict
-judged rules m f = go (m .running) refl (opening (f .contacts)) refl (conforms rules (m .table) (f .contacts)) refl
+judged rules m f = go (m .running) refl (opening touchView (f .contacts)) refl (conforms touchView rules (m .table) (f .contacts)) refl
   where
     by : Verdict → Type 0
-    by v = Judged rules m f (machineAfter v rules m (f .contacts)) (bytesFor v m f)
+    by v = Judged rules m f (machineAfter touchView v (rules .next) m (f .contacts)) (bytesFor touchView v m f)
 
-    go : (a : Bool) → m .running ≡ a → (b : Bool) → opening (f .contacts) ≡ b → (c : Bool) → conforms rules (m .table) (f .contacts) ≡ c → by (cond (cond a true b) (cond c injected cancelled) ignored)
+    go : (a : Bool) → m .running ≡ a → (b : Bool) → opening touchView (f .contacts) ≡ b → (c : Bool) → conforms touchView rules (m .table) (f .contacts) ≡ c → by (cond (cond a true b) (cond c injected cancelled) ignored)
     go true ha b hb true hc = injects hc
     go true ha b hb false hc = cancels
     go false ha true hb true hc = injects hc
@@ -192,12 +192,12 @@ pub record Steady (most : ℕ) (m : Machine) : Type 0 where
   pub ignoring : m .running ≡ false → m .table ≡ resting
 
 module _ (most : ℕ) where
-  pub step-steady : (m : Machine) (f : Frame Contact) → FrameFits f → Steady most m → Steady most (stepMachine (ruled most) m f)
-  step-steady m f hf h = go (judged (ruled most) m f)
+  pub step-steady : (m : Machine) (f : Frame Contact) → FrameFits f → Steady most m → Steady most (stepMachine touchView (touchRules most) m f)
+  step-steady m f hf h = go (judged (touchRules most) m f)
     where
-      go : {n : Machine} {s : List ℕ} → Judged (ruled most) m f n s → Steady most n
+      go : {n : Machine} {s : List ℕ} → Judged (touchRules most) m f n s → Steady most n
       go (injects c) =
-          let k = conforming (ruled most) (m .table) (f .contacts) c in
+          let k = conforming (touchRules most) (m .table) (f .contacts) c in
           record {
             table = after-sound most (m .table) (f .contacts) (h .table) (hf .contacts) (k .distinct) (k .legal);
             few = k .few;
@@ -206,10 +206,10 @@ module _ (most : ℕ) where
       go (ignores e o) = h
       go cancels = record { table = resting-sound; few = rw resting-count (omega arith); ignoring = λ e. refl }
 
-  pub run-steady : (m : Machine) (fs : List (Frame Contact)) → All FrameFits fs → Steady most m → Steady most (runMachine (ruled most) m fs)
+  pub run-steady : (m : Machine) (fs : List (Frame Contact)) → All FrameFits fs → Steady most m → Steady most (runMachine touchView (touchRules most) m fs)
   unfolding runMachine
   run-steady m [] hf h = h
-  run-steady m (f ∷ fs) hf h = run-steady (stepMachine (ruled most) m f) fs (hf .1) (step-steady m f (hf .0) h)
+  run-steady m (f ∷ fs) hf h = run-steady (stepMachine touchView (touchRules most) m f) fs (hf .1) (step-steady m f (hf .0) h)
 
 -- ---- a dismissal
 

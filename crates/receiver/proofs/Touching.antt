@@ -3,9 +3,9 @@
 use Prim.Native.Nat.{ℕ, _+_, _-_, _*_, _/_, _≤_, _<_}
 use mathlib.Core.Path.{_≡_, refl, sym, ap, _∙_}
 use mathlib.Core.Bool.{Bool, true, false, cond, not}
-use mathlib.Core.List.{List, [], _∷_}
+use mathlib.Core.List.{List, []}
 use native.Mathlib.Omega.{arith}
-use borrow.Author.Tests.{ne-eqb, leb-true, leb-false}
+use borrow.Author.Tests.{leb-true, leb-false}
 use lib.Dec.{leb}
 use lib.ListN.{length, take, drop}
 use Rattle.paper.specs.Refusals.{none, noRoom}
@@ -16,42 +16,35 @@ use Rattle.formats.proofs.Laws.{never}
 use Rattle.formats.proofs.Steps.{tail}
 use Rattle.fields.specs.Integers.{strict}
 use Rattle.house.specs.declared.Contact.{Contact}
-use Rattle.framing.specs.Frame.{Frame}
+use Rattle.framing.specs.Frame.{Frame, timedFrames}
 use Rattle.touch.specs.Touch.{Touch, touchHeadOf, body}
 use Rattle.touch.specs.Answer.{summary, checkedGot, checkedRefusal, Checks}
 use Rattle.touch.specs.declared.TouchHead.{TouchHead}
 use Rattle.touch.specs.declared.CheckedBody.{CheckedBody}
 use Rattle.touch.specs.declared.CheckedBody.the-variants as CheckedBody
 use Rattle.touch.proofs.Passes.{frameBy, frames-freed, Checked, checked}
-use Rattle.contacts.specs.Table.{Table, contacts}
-use Rattle.contacts.specs.Machine.{Machine, Counts, runBytes}
+use Rattle.machine.specs.Table.{Table, contacts}
+use Rattle.machine.specs.Machine.{Machine, Counts, runBytes}
+use Rattle.contacts.specs.Touch.{touchView}
 use Rattle.contacts.specs.Ruling.{Counted}
-use Rattle.runs.specs.Runs.{timedFrames, Ran, Runs}
+use Rattle.runs.specs.Runs.{Ran, Runs}
 use Rattle.runs.specs.declared.Run.{Run}
 use Rattle.receiver.specs.declared.Receiver.{Receiver}
 use Rattle.receiver.specs.declared.Answer.{Answer}
 use Rattle.receiver.specs.declared.Received.{Received}
-use Rattle.receiver.specs.Receive.{off, mark, rulesOf, machineOf, untimed, judged, framesFor, timeFor, begunAfter, touched, refusal, answerOf}
-use Rattle.receiver.specs.Events.{begunBy, answerTo, Gives, touchEffect, Tallies, Rooms, Carried, Carries}
+use Rattle.receiver.specs.Receive.{off, mark, rulesOf, machineOf, untimed, judged, touched, refusal, answerOf, begunBy, timeBy}
+use Rattle.receiver.specs.Events.{answerOfRun, Gives, touchEffect, Tallies, Rooms, Carried, Carries}
 use Rattle.receiver.proofs.Weight.{touch-small}
 use Rattle.receiver.proofs.Answering.{gives-refused, gives-none, gives-done}
 
 -- ---- the frames as a run takes them, and as the receiver's definition does
 
-pub frames-timed : (r : Receiver) (fs : List (Frame Contact)) → timedFrames (untimed r) fs ≡ framesFor r fs
-unfolding timedFrames framesFor
-frames-timed r fs = refl
+frames-same : (r : Receiver) (un : Bool) → un ≡ untimed r → (fs : List (Frame Contact)) → timedFrames un fs ≡ timedFrames (untimed r) fs
+frames-same r un e fs = ap (λ (b : Bool). timedFrames b fs) e
 
-frames-same : (r : Receiver) (un : Bool) → un ≡ untimed r → (fs : List (Frame Contact)) → timedFrames un fs ≡ framesFor r fs
-frames-same r un e fs = ap (λ (b : Bool). timedFrames b fs) e ∙ frames-timed r fs
-
-bytes-of : (r : Receiver) (m : Touch) → touched r m .bytes ≡ runBytes (rulesOf r) (machineOf r) (framesFor r (m .frames))
+bytes-of : (r : Receiver) (m : Touch) → touched r m .bytes ≡ runBytes touchView (rulesOf r) (machineOf r) (timedFrames (untimed r) (m .frames))
 unfolding touched
 bytes-of r m = refl
-
-begun-is : (r : Receiver) (fs : List (Frame Contact)) → begunBy (r .begun) (length fs) ≡ begunAfter r fs
-begun-is r [] = refl
-begun-is r (f ∷ fs) = rw (ne-eqb (length (f ∷ fs)) 0 (λ e. omega arith))
 
 quotient : (k n : ℕ) → 21 * k ≡ n → k ≡ n / 21
 quotient k n e = omega arith
@@ -78,27 +71,27 @@ module _ (r : Receiver) (n : ℕ) (l : List ℕ) (bytes : ℕ) (before : List �
 module _ (r : Receiver) (l : List ℕ) (un : Bool) (eu : un ≡ untimed r) (active : ℕ) (a : Counted active (r .states)) (run : Run) (u : Table) (before after : List ℕ) where
   -- ---- counted
 
-  pub tallies : (n : ℕ) → Runs n l un false (off (r .ignoring)) (r .settings .most) active run (machineOf r .table) u before after → Tallies r n l (run .records) before after
+  pub tallies : (n : ℕ) → Runs n l un false (off (r .ignoring)) (rulesOf r) active run (machineOf r .table) u before after → Tallies r n l (run .records) before after
   tallies n x =
       record {
         small = x .small;
-        count = λ fs rest e. x .ran fs rest e a .records ∙ ap (λ (gs : List (Frame Contact)). length (runBytes (rulesOf r) (machineOf r) gs)) (frames-same r un eu fs);
+        count = λ fs rest e. x .ran fs rest e a .records ∙ ap (λ (gs : List (Frame Contact)). length (runBytes touchView (rulesOf r) (machineOf r) gs)) (frames-same r un eu fs);
         kept = λ fs rest e. x .ran fs rest e a .output .kept refl;
       }
 
   -- ---- carried out
 
-  module _ (h : TouchHead) (x : Runs (h .frames) l un true (off (r .ignoring)) (r .settings .most) active run (machineOf r .table) u before after)
+  module _ (h : TouchHead) (x : Runs (h .frames) l un true (off (r .ignoring)) (rulesOf r) active run (machineOf r .table) u before after)
       (b i : ℕ) (time : Milliseconds) (answer : Answer)
-      (eb : b ≡ begunBy (r .begun) (h .frames)) (ei : i ≡ mark (not (run .running))) (et : time ≡ cond un (record { 0 = 0 }) (h .time)) (ea : answer ≡ answerTo run time) where
+      (eb : b ≡ begunBy (r .begun) (h .frames)) (ei : i ≡ mark (not (run .running))) (et : time ≡ cond un (record { 0 = 0 }) (h .time)) (ea : answer ≡ answerOfRun run time) where
     module _ (m : Touch) (rest : List ℕ) (eh : h ≡ touchHeadOf m) (e : readSeries frameBy false (h .frames) l ≡ got (m .frames) rest) where
-      ran : Ran (rulesOf r) (framesFor r (m .frames)) true (off (r .ignoring)) run (machineOf r .table) u before after
+      ran : Ran (rulesOf r) (timedFrames (untimed r) (m .frames)) true (off (r .ignoring)) run (machineOf r .table) u before after
       ran = rw (frames-same r un eu (m .frames)) at (x .ran (m .frames) rest e a)
 
       receiver-is : record { ready = r .ready; begun = b; ignoring = i; settings = r .settings; states = u .states; xs = u .xs; ys = u .ys } ≡ touched r m .receiver
       unfolding touched
       receiver-is =
-          let eb′ : b ≡ begunAfter r (m .frames) = eb ∙ ap (λ (g : TouchHead). begunBy (r .begun) (g .frames)) eh ∙ begun-is r (m .frames) in
+          let eb′ = eb ∙ ap (λ (g : TouchHead). begunBy (r .begun) (g .frames)) eh in
           let ei′ = ei ∙ ap (λ (k : Machine). mark (not (k .running))) (ran .machine) in
           let s = ap (λ (k : Machine). k .table .states) (ran .machine) in
           let p = ap (λ (k : Machine). k .table .xs) (ran .machine) in
@@ -108,7 +101,7 @@ module _ (r : Receiver) (l : List ℕ) (un : Bool) (eu : un ≡ untimed r) (acti
       answer-is : answer ≡ answerOf (touched r m)
       unfolding touched
       answer-is =
-          let et′ : time ≡ timeFor r (m .time) = et ∙ ap (λ (g : TouchHead). cond un (record { 0 = 0 }) (g .time)) eh ∙ ap (λ (y : Bool). cond y (record { 0 = 0 }) (m .time)) eu in
+          let et′ = et ∙ ap (λ (g : TouchHead). timeBy un (g .time)) eh ∙ ap (λ (y : Bool). timeBy y (m .time)) eu in
           let k = ran .counts in
           let n = quotient (run .records) _ (ran .records) in
           ea

@@ -3,7 +3,7 @@
 use Prim.Native.Nat.{ℕ, zero, suc, _+_, _*_, _/_, _≤_}
 use mathlib.Core.Path.{_≡_, refl, ap}
 use mathlib.Core.Bool.{Bool, true, false, cond}
-use mathlib.Core.List.{List, [], _∷_, map}
+use mathlib.Core.List.{List, [], _∷_}
 use native.Mathlib.Omega.{arith}
 use borrow.Author.Tests.{eqb-true}
 use lib.Dec.{eqb, leb}
@@ -20,19 +20,23 @@ use Rattle.house.specs.Fields.{recordBytes}
 use Rattle.house.specs.WellFormed.{has}
 use Rattle.house.specs.Fits.{noSides}
 use Rattle.house.specs.declared.Contact.{Contact}
-use Rattle.framing.specs.Frame.{Frame, withoutOffset}
+use Rattle.house.proofs.Round.{length-contact}
+use Rattle.framing.proofs.Timed.{timed-contacts}
+use Rattle.framing.specs.Frame.{Frame, timedFrames}
 use Rattle.touch.specs.Touch.{Touch, optionalOf, present, point, flags, sides, orientation, pressure, optional, contact, offset, frameHead, frame, frameCount, touchHead, touch, body}
 use Rattle.touch.specs.declared.TouchHead.{TouchHead}
 use Rattle.touch.proofs.Passes.{contactBy, frameBy, frame-got, body-got}
 use Rattle.frame_records.proofs.Laws.{length-frame}
-use Rattle.contacts.specs.Table.{Table, contacts, active, one, withContact, countActive}
-use Rattle.contacts.specs.Conforms.{Rules, nextOf, moved, after}
-use Rattle.contacts.specs.Machine.{Machine, Verdict, injected, ignored, cancelled, verdict, machineAfter, bytesFor, stepMachine, stepBytes, runBytes}
-use Rattle.contacts.proofs.Table.{one-le, count-le, resting-whole, resting-count}
-use Rattle.contacts.proofs.Machine.{cancels-length}
+use Rattle.machine.specs.Rules.{Rules}
+use Rattle.machine.specs.Table.{Table, contacts, active, one, withContact, countActive}
+use Rattle.machine.specs.Conforms.{nextOf, moved, tableAfter}
+use Rattle.machine.specs.Machine.{Machine, Verdict, injected, ignored, cancelled, verdict, machineAfter, bytesFor, stepMachine, stepBytes, runBytes}
+use Rattle.machine.proofs.Table.{one-le, count-le, resting-whole, resting-count}
+use Rattle.machine.proofs.Machine.{cancels-length}
 use Rattle.runs.proofs.Stepping.{after-long}
 use Rattle.receiver.specs.declared.Receiver.{Receiver}
-use Rattle.receiver.specs.Receive.{rulesOf, machineOf, untimed, judged, framesFor, touched}
+use Rattle.receiver.specs.Receive.{rulesOf, machineOf, untimed, judged, touched}
+use Rattle.contacts.specs.Touch.{touchView}
 
 -- ---- a format takes n bytes at least
 
@@ -204,10 +208,10 @@ body-weight judged l m t h = go (touchHead strict .read l) refl
         let b = body-got judged l m t g u h w in
         omega (arith, takes-touch-head strict least-strict .least l g u w, frames-take judged (g .frames) u (m .frames) [] (b .frames))
 
-pub weight-timed : (fs : List (Frame Contact)) → weight (map withoutOffset fs) ≡ weight fs
-unfolding weight
-weight-timed [] = refl
-weight-timed (f ∷ fs) = ap (λ (n : ℕ). 1 + 2 * length (f .contacts) + n) (weight-timed fs)
+weight-timed : (b : Bool) (fs : List (Frame Contact)) → weight (timedFrames b fs) ≡ weight fs
+unfolding weight timedFrames
+weight-timed b [] = refl
+weight-timed b (f ∷ fs) = rw (timed-contacts b f) (ap (λ (n : ℕ). 1 + 2 * length (f .contacts) + n) (weight-timed b fs))
 
 -- ---- the records of a run: a head and its contacts for an injected frame, and for a cancel those that are active, each of which was so before
 -- or came with a contact
@@ -218,44 +222,36 @@ count-set [] id s = omega arith
 count-set (x ∷ ss) zero s = omega (arith, one-le (active s))
 count-set (x ∷ ss) (suc id) s = omega (arith, count-set ss id s)
 
-module _ (rules : Rules) where
-  after-count : (t : Table) (cs : List Contact) → countActive (after rules t cs .states) ≤ countActive (t .states) + length cs
-  unfolding after moved withContact
+module _ (rules : Rules Contact) where
+  after-count : (t : Table) (cs : List Contact) → countActive (tableAfter touchView (rules .next) t cs .states) ≤ countActive (t .states) + length cs
+  unfolding tableAfter moved withContact
   after-count t [] = omega arith
-  after-count t (c ∷ cs) = omega (arith, after-count (moved rules t c) cs, count-set (t .states) (c .id) (nextOf rules t c))
+  after-count t (c ∷ cs) = omega (arith, after-count (moved touchView (rules .next) t c) cs, count-set (t .states) (c .id) (nextOf touchView (rules .next) t c))
 
   verdict-weight : (m : Machine) (f : Frame Contact) (v : Verdict) → length (m .table .states) ≡ contacts
-      → length (bytesFor v m f) + 21 * countActive (machineAfter v rules m (f .contacts) .table .states) ≤ 21 * (1 + 2 * length (f .contacts) + countActive (m .table .states))
+      → length (bytesFor touchView v m f) + 21 * countActive (machineAfter touchView v (rules .next) m (f .contacts) .table .states) ≤ 21 * (1 + 2 * length (f .contacts) + countActive (m .table .states))
   verdict-weight m f injected h = omega (arith, length-frame f, after-count (m .table) (f .contacts))
   verdict-weight m f ignored h = omega arith
-  verdict-weight m f cancelled h = omega (arith, cancels-length (m .table) h, resting-count)
+  verdict-weight m f cancelled h = omega (arith, cancels-length touchView (m .table) length-contact h, resting-count)
 
-  pub verdict-long : (m : Machine) (cs : List Contact) (v : Verdict) → length (m .table .states) ≡ contacts → length (machineAfter v rules m cs .table .states) ≡ contacts
+  pub verdict-long : (m : Machine) (cs : List Contact) (v : Verdict) → length (m .table .states) ≡ contacts → length (machineAfter touchView v (rules .next) m cs .table .states) ≡ contacts
   verdict-long m cs injected h = after-long rules (m .table) cs h
   verdict-long m cs ignored h = h
   verdict-long m cs cancelled h = resting-whole .states
 
-  pub run-weight : (m : Machine) (fs : List (Frame Contact)) → length (m .table .states) ≡ contacts → length (runBytes rules m fs) ≤ 21 * (weight fs + countActive (m .table .states))
+  pub run-weight : (m : Machine) (fs : List (Frame Contact)) → length (m .table .states) ≡ contacts → length (runBytes touchView rules m fs) ≤ 21 * (weight fs + countActive (m .table .states))
   unfolding runBytes weight stepMachine stepBytes
   run-weight m [] h = omega arith
   run-weight m (f ∷ fs) h =
-      let v = verdict rules m (f .contacts) in
+      let v = verdict touchView rules m (f .contacts) in
       let a = verdict-weight m f v h in
-      let b = run-weight (stepMachine rules m f) fs (verdict-long m (f .contacts) v h) in
+      let b = run-weight (stepMachine touchView rules m f) fs (verdict-long m (f .contacts) v h) in
       rw length-append (omega (arith, a, b))
 
 -- ---- a touch message: two bytes of its body give at most one record, beside a cancel for each contact
-
-weight-for : (r : Receiver) (fs : List (Frame Contact)) → weight (framesFor r fs) ≡ weight fs
-unfolding framesFor
-weight-for r fs = go (untimed r)
-  where
-    go : (b : Bool) → weight (cond b (map withoutOffset fs) fs) ≡ weight fs
-    go true = weight-timed fs
-    go false = refl
 
 pub touch-small : (r : Receiver) → length (r .states) ≡ contacts → (b : List ℕ) (m : Touch) (t : List ℕ) → body strict (judged r) b ≡ got m t
     → length (touched r m .bytes) ≤ recordBytes * (length b / 2 + contacts)
 unfolding touched
 touch-small r h b m t w =
-    omega (arith, run-weight (rulesOf r) (machineOf r) (framesFor r (m .frames)) h, weight-for r (m .frames), body-weight (judged r) b m t w, count-le (r .states))
+    omega (arith, run-weight (rulesOf r) (machineOf r) (timedFrames (untimed r) (m .frames)) h, weight-timed (untimed r) (m .frames), body-weight (judged r) b m t w, count-le (r .states))

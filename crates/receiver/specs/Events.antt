@@ -1,9 +1,8 @@
 -- What the calls for the single events answer: of the effect that a body has, and of the frames of a touch message.
-use Prim.Native.Nat.{ℕ, _+_, _*_, _/_, _%_, _≤_, _<_}
+use Prim.Native.Nat.{ℕ, _+_, _*_, _/_, _≤_, _<_}
 use mathlib.Core.Path.{_≡_}
-use mathlib.Core.Bool.{Bool, true, false, cond}
+use mathlib.Core.Bool.{Bool, true, false}
 use mathlib.Core.List.{List}
-use lib.Dec.{eqb}
 use lib.ListN.{length}
 use Rattle.paper.specs.Refusals.{none, trailing}
 use Rattle.paper.specs.declared.Milliseconds.{Milliseconds}
@@ -13,11 +12,11 @@ use Rattle.fields.specs.Integers.{strict}
 use Rattle.house.specs.Fields.{recordBytes}
 use Rattle.messages.specs.Bodies.{ready}
 use Rattle.house.specs.declared.Contact.{Contact}
-use Rattle.framing.specs.Frame.{Frame}
+use Rattle.framing.specs.Frame.{Frame, timedFrames}
 use Rattle.touch.specs.Touch.{Touch, touchHeadOf, frame, body}
 use Rattle.touch.specs.declared.TouchHead.{TouchHead}
-use Rattle.contacts.specs.Table.{Table, contacts}
-use Rattle.contacts.specs.Machine.{runBytes}
+use Rattle.machine.specs.Table.{Table, contacts}
+use Rattle.machine.specs.Machine.{runBytes}
 use Rattle.runs.specs.Runs.{mostRecords}
 use Rattle.runs.specs.declared.Run.{Run}
 use Rattle.receiver.specs.declared.Receiver.{Receiver}
@@ -25,32 +24,20 @@ use Rattle.receiver.specs.declared.Answer.{Answer}
 use Rattle.receiver.specs.declared.Received.{Received}
 use Rattle.receiver.specs.declared.Marks.{Marks}
 use Rattle.receiver.specs.declared.Turn.{Turn}
-use Rattle.receiver.specs.Receive.{Effect, rulesOf, machineOf, off, judged, framesFor, settled, touched, dismissedBy, draftOf, answerOf, receiverAfter, answerAfter}
+use Rattle.receiver.specs.Receive.{Effect, rulesOf, machineOf, judged, settled, touched, dismissedBy, draftOf, answerOf, receiverAfter, answerAfter, untimed}
+use Rattle.contacts.specs.Touch.{touchView}
 
 -- ---- a receiver as its parts: the marks, and the contacts where they stand
 
-abbrev pub held : Marks → Table → Receiver
-held m t = record { ready = m .ready; begun = m .begun; ignoring = m .ignoring; settings = m .settings; states = t .states; xs = t .xs; ys = t .ys }
+abbrev pub ofParts : Marks → Table → Receiver
+ofParts m t = record { ready = m .ready; begun = m .begun; ignoring = m .ignoring; settings = m .settings; states = t .states; xs = t .xs; ys = t .ys }
 
 abbrev pub turned : Turn → Table → Received
-turned n t = record { receiver = held (n .marks) t; answer = n .answer }
-
--- ---- settings and marks
-
--- ready flag 2
-abbrev pub untimedBy : ℕ → Bool
-untimedBy flags = eqb (flags / 2 % 2) 1
-
-abbrev pub judgedBy : ℕ → ℕ → Bool
-judgedBy flags begun = cond (untimedBy flags) false (off begun)
-
--- the first-frame mark after a message of so many frames
-abbrev pub begunBy : ℕ → ℕ → ℕ
-begunBy begun frames = cond (eqb frames 0) begun 1
+turned n t = record { receiver = ofParts (n .marks) t; answer = n .answer }
 
 -- the answer of a run
-abbrev pub answerTo : Run → Milliseconds → Answer
-answerTo run time = record { refusal = none; injected = run .injected; ignored = run .ignored; cancelled = run .cancelled; time = time; records = run .records }
+abbrev pub answerOfRun : Run → Milliseconds → Answer
+answerOfRun run time = record { refusal = none; injected = run .injected; ignored = run .ignored; cancelled = run .cancelled; time = time; records = run .records }
 
 -- ---- the answer for an effect, or for the refusal in its place
 
@@ -75,16 +62,16 @@ dismissEffect r b = andThen (whole byte trailing b) (λ id t. got (dismissedBy r
 pub record Tallies (r : Receiver) (n : ℕ) (l : List ℕ) (records : ℕ) (before after : List ℕ) : Type 0 where
   pub small : records ≤ mostRecords
   pub count : (fs : List (Frame Contact)) (rest : List ℕ) → readSeries (λ b. frame strict b .read) false n l ≡ got fs rest
-      → recordBytes * records ≡ length (runBytes (rulesOf r) (machineOf r) (framesFor r fs))
+      → recordBytes * records ≡ length (runBytes touchView (rulesOf r) (machineOf r) (timedFrames (untimed r) fs))
   pub kept : (fs : List (Frame Contact)) (rest : List ℕ) → readSeries (λ b. frame strict b .read) false n l ≡ got fs rest → after ≡ before
 
 -- whether there is room for their records, where the frames are all that a body of so many bytes holds
 pub record Rooms (r : Receiver) (n : ℕ) (l : List ℕ) (bodyBytes : ℕ) (roomy : Bool) (before after : List ℕ) : Type 0 where
   pub short : roomy ≡ false → (fs : List (Frame Contact)) (rest : List ℕ) → readSeries (λ b. frame strict b .read) false n l ≡ got fs rest
-      → length before < length (runBytes (rulesOf r) (machineOf r) (framesFor r fs))
+      → length before < length (runBytes touchView (rulesOf r) (machineOf r) (timedFrames (untimed r) fs))
   pub enough : roomy ≡ true → (fs : List (Frame Contact)) (rest : List ℕ) → readSeries (λ b. frame strict b .read) false n l ≡ got fs rest
-      → length (runBytes (rulesOf r) (machineOf r) (framesFor r fs)) ≤ recordBytes * (bodyBytes / 2 + contacts)
-      → length (runBytes (rulesOf r) (machineOf r) (framesFor r fs)) ≤ length before
+      → length (runBytes touchView (rulesOf r) (machineOf r) (timedFrames (untimed r) fs)) ≤ recordBytes * (bodyBytes / 2 + contacts)
+      → length (runBytes touchView (rulesOf r) (machineOf r) (timedFrames (untimed r) fs)) ≤ length before
   pub kept : (fs : List (Frame Contact)) (rest : List ℕ) → readSeries (λ b. frame strict b .read) false n l ≡ got fs rest → after ≡ before
 
 -- an effect, carried out

@@ -20,15 +20,16 @@ use Rattle.house.specs.declared.Record.{Record}
 use Rattle.house.specs.declared.Record.the-variants as Record
 use Rattle.messages.specs.Header.{headed, touch, writeMessage}
 use Rattle.messages.specs.declared.Ready.{Ready}
-use Rattle.framing.specs.Frame.{Frame}
+use Rattle.framing.specs.Frame.{Frame, timedFrames}
 use Rattle.touch.specs.Touch.{Touch, body}
 use Rattle.touch.specs.Touch as format
-use Rattle.contacts.specs.Table.{Table, resting, stateAt}
-use Rattle.contacts.specs.Conforms.{every, lifts, samePlace, placeIn}
-use Rattle.contacts.specs.Machine.{Machine, opening, cancelled, verdict, runMachine, runBytes}
+use Rattle.machine.specs.Table.{Table, resting, stateAt}
+use Rattle.machine.specs.Conforms.{every, lifts, samePlace, placeIn}
+use Rattle.machine.specs.Machine.{Machine, opening, cancelled, verdict, runMachine, runBytes}
 use Rattle.receiver.specs.declared.Receiver.{Receiver}
 use Rattle.receiver.specs.declared.Answer.{Answer}
-use Rattle.receiver.specs.Receive.{off, rulesOf, machineOf, withTable, framesFor, judged, takes, effect, draftOf, refusal, receiverAfter, answerAfter}
+use Rattle.receiver.specs.Receive.{off, rulesOf, machineOf, withTable, judged, takes, effect, draftOf, refusal, receiverAfter, answerAfter, untimed}
+use Rattle.contacts.specs.Touch.{touchView}
 
 -- ---- "any history of messages to one receiver, refused ones among them"
 
@@ -110,7 +111,7 @@ framesTaken r x = cond (eqb (answerTo r x .refusal) none) (framesOf (touchIn r (
 
 -- "The meaning of "opening" is the same in both modes."
 abbrev pub opens : Frame Contact → Bool
-opens f = opening (f .contacts)
+opens f = opening touchView (f .contacts)
 
 unfoldable pub unopened : List (Frame Contact) → Bool
 unopened fs = every (λ f. not (opens f)) fs
@@ -126,10 +127,10 @@ rested s = withTable (record { ready = 1; begun = 1; ignoring = 0; settings = s;
 
 -- the contacts and the mode after the first frames of a message, and what those write
 abbrev pub machineAt : Receiver → List (Frame Contact) → Machine
-machineAt r fs = runMachine (rulesOf r) (machineOf r) (framesFor r fs)
+machineAt r fs = runMachine touchView (rulesOf r) (machineOf r) (timedFrames (untimed r) fs)
 
 abbrev pub bytesAt : Receiver → List (Frame Contact) → List ℕ
-bytesAt r fs = runBytes (rulesOf r) (machineOf r) (framesFor r fs)
+bytesAt r fs = runBytes touchView (rulesOf r) (machineOf r) (timedFrames (untimed r) fs)
 
 -- the bytes of a touch message
 abbrev pub messageOf : Touch → List ℕ
@@ -153,7 +154,7 @@ pub record AsRested (r : Receiver) (x y : Sent) (fs : List (Frame Contact)) (mor
 
 -- the frame f is cancelled, after the frames fs of its message
 abbrev pub CancelledAfter : Receiver → List (Frame Contact) → Frame Contact → Type 0
-CancelledAfter r fs f = verdict (rulesOf r) (machineAt r fs) (f .contacts) ≡ cancelled
+CancelledAfter r fs f = verdict touchView (rulesOf r) (machineAt r fs) (f .contacts) ≡ cancelled
 
 -- no contact is active
 abbrev pub NoneActive : Table → Type 0

@@ -2,7 +2,7 @@
 use Prim.Native.Nat.{ℕ, _/_, _%_}
 use mathlib.Core.Path.{_≡_}
 use mathlib.Core.Bool.{Bool, true, false, cond, not}
-use mathlib.Core.List.{List, [], _∷_, map}
+use mathlib.Core.List.{List, [], _∷_}
 use lib.Dec.{eqb, leb}
 use lib.ListN.{length}
 use Rattle.paper.specs.Refusals.{none, noRoom, trailing}
@@ -10,20 +10,20 @@ use Rattle.paper.specs.declared.Milliseconds.{Milliseconds}
 use Rattle.slices.specs.Writing.{Draft, bytes, refuse, given, left}
 use Rattle.formats.specs.Format.{Got, got, bad, andThen, whole, byte}
 use Rattle.fields.specs.Integers.{strict}
-use Rattle.states.specs.Table.{next}
 use Rattle.house.specs.Fields.{recordBytes}
 use Rattle.messages.specs.Header.{headed, clientReady, touch, dismiss}
 use Rattle.messages.specs.Bodies.{ready}
 use Rattle.messages.specs.declared.Ready.{Ready}
 use Rattle.house.specs.declared.Contact.{Contact}
-use Rattle.framing.specs.Frame.{Frame, withoutOffset}
+use Rattle.framing.specs.Frame.{Frame, timedFrames}
 use Rattle.touch.specs.Touch.{Touch, body}
-use Rattle.contacts.specs.Table.{Table, resting}
-use Rattle.contacts.specs.Conforms.{Rules}
-use Rattle.contacts.specs.Machine.{Machine, runMachine, runBytes, runCounts, dismissTable, dismissBytes, Counts}
-use Rattle.contacts.specs.Machine as machine
+use Rattle.machine.specs.Rules.{Rules}
+use Rattle.machine.specs.Table.{Table, resting}
+use Rattle.machine.specs.Machine.{Machine, runMachine, runBytes, runCounts, dismissTable, dismissBytes, Counts}
+use Rattle.machine.specs.Machine as machine
 use Rattle.receiver.specs.declared.Receiver.{Receiver}
 use Rattle.receiver.specs.declared.Answer.{Answer}
+use Rattle.contacts.specs.Touch.{touchView, touchRules}
 
 -- ---- a receiver's parts: each mark is off where its number is 0
 
@@ -34,8 +34,8 @@ abbrev pub mark : Bool → ℕ
 mark true = 1
 mark false = 0
 
-abbrev pub rulesOf : Receiver → Rules
-rulesOf r = record { next = next; most = r .settings .most }
+abbrev pub rulesOf : Receiver → Rules Contact
+rulesOf r = touchRules (r .settings .most)
 
 abbrev pub machineOf : Receiver → Machine
 machineOf r = record { table = record { states = r .states; xs = r .xs; ys = r .ys }; running = off (r .ignoring) }
@@ -67,45 +67,47 @@ abbrev pub settled : Receiver → Ready → Effect
 settled r s = quiet (record { ready = 1; begun = r .begun; ignoring = r .ignoring; settings = s; states = r .states; xs = r .xs; ys = r .ys }) []
 
 -- "With ready flag 2 set, 11 is not applied, and the receiver answers encodeTime 0 and writes offset 0 (000, 2.2.3.2)."
+abbrev pub untimedBy : ℕ → Bool
+untimedBy flags = eqb (flags / 2 % 2) 1
+
 abbrev pub untimed : Receiver → Bool
-untimed r = eqb (r .settings .flags / 2 % 2) 1
+untimed r = untimedBy (r .settings .flags)
+
+abbrev pub timeBy : Bool → Milliseconds → Milliseconds
+timeBy unstamped t = cond unstamped (record { 0 = 0 }) t
 
 -- "11 is judged on a message's first frame as long as no touch message with a frame has been accepted since ready."
+abbrev pub judgedBy : ℕ → ℕ → Bool
+judgedBy flags begun = cond (untimedBy flags) false (off begun)
+
 abbrev pub judged : Receiver → Bool
-judged r = cond (untimed r) false (off (r .begun))
+judged r = judgedBy (r .settings .flags) (r .begun)
 
-unfoldable pub framesFor : Receiver → List (Frame Contact) → List (Frame Contact)
-framesFor r fs = cond (untimed r) (map withoutOffset fs) fs
-
-abbrev pub timeFor : Receiver → Milliseconds → Milliseconds
-timeFor r t = cond (untimed r) (record { 0 = 0 }) t
-
--- a touch message with a frame sets the first-frame mark
-abbrev pub begunAfter : Receiver → List (Frame Contact) → ℕ
-begunAfter r [] = r .begun
-begunAfter r (f ∷ fs) = 1
+-- the first-frame mark after a touch message of so many frames
+abbrev pub begunBy : ℕ → ℕ → ℕ
+begunBy begun frames = cond (eqb frames 0) begun 1
 
 unfoldable pub touched : Receiver → Touch → Effect
 touched r m =
-    let fs : List (Frame Contact) = framesFor r (m .frames) in
-    let a : Machine = runMachine (rulesOf r) (machineOf r) fs in
+    let fs : List (Frame Contact) = timedFrames (untimed r) (m .frames) in
+    let a : Machine = runMachine touchView (rulesOf r) (machineOf r) fs in
     record {
       receiver = record {
         ready = r .ready;
-        begun = begunAfter r (m .frames);
+        begun = begunBy (r .begun) (length (m .frames));
         ignoring = mark (not (a .running));
         settings = r .settings;
         states = a .table .states;
         xs = a .table .xs;
         ys = a .table .ys;
       };
-      counts = runCounts (rulesOf r) (machineOf r) fs;
-      time = timeFor r (m .time);
-      bytes = runBytes (rulesOf r) (machineOf r) fs;
+      counts = runCounts touchView (rulesOf r) (machineOf r) fs;
+      time = timeBy (untimed r) (m .time);
+      bytes = runBytes touchView (rulesOf r) (machineOf r) fs;
     }
 
 abbrev pub dismissedBy : Receiver → ℕ → Effect
-dismissedBy r id = quiet (withTable r (dismissTable (machineOf r .table) id)) (dismissBytes (machineOf r .table) id)
+dismissedBy r id = quiet (withTable r (dismissTable (machineOf r .table) id)) (dismissBytes touchView (machineOf r .table) id)
 
 -- "The receiver takes event 2 until it accepts one, then only 3 and 6."
 abbrev pub takes : Receiver → List ℕ

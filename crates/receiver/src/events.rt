@@ -11,10 +11,10 @@ ghost use Prim.Native.Nat.{ℕ};
 ghost use mathlib.Core.Path.{_≡_};
 ghost use mathlib.Core.Bool.{true};
 ghost use mathlib.Core.List.{List};
-ghost use Rattle.contacts.specs.Table.{Table};
-ghost use Rattle.contacts.specs.Ruling.{tableOf};
+ghost use Rattle.machine.specs.Table.{Table};
+ghost use Rattle.contacts.specs.Ruling.{tableFrom};
 ghost use Rattle.receiver.specs.Receive.{off, effect, refusal};
-ghost use Rattle.receiver.specs.Events.{held, turned, Gives, readyEffect, dismissEffect};
+ghost use Rattle.receiver.specs.Events.{ofParts, turned, Gives, readyEffect, dismissEffect};
 
 // The answer where no frame was run.
 fn quiet(marks: Marks, refusal: u8, records: usize) -> Turn
@@ -55,7 +55,7 @@ fn settle(marks: Marks, settings: Ready) -> Marks
 
 // The body of a client ready.
 fn receive_settings(marks: Marks, body: &[u8]) -> Turn
-    ensures { λ r. ⌜ ((t : Table) (d : List ℕ) → Gives (held marks t) (readyEffect (held marks t) (now (body .entry))) d (turned r t) d) ⌝ }
+    ensures { λ r. ⌜ ((t : Table) (d : List ℕ) → Gives (ofParts marks t) (readyEffect (ofParts marks t) (now (body .entry))) d (turned r t) d) ⌝ }
 {
     match messages::read_ready_body(body) {
         ReadReady::Refused(e) => refuse(marks, e),
@@ -65,7 +65,7 @@ fn receive_settings(marks: Marks, body: &[u8]) -> Turn
 
 // Client ready, all that an unready receiver takes.
 pub(crate) fn receive_ready(marks: Marks, message: &[u8]) -> Turn
-    ensures { λ r. ⌜ (off (marks .ready) ≡ true → (t : Table) (d : List ℕ) → Gives (held marks t) (effect (held marks t) (now (message .entry))) d (turned r t) d) ⌝ }
+    ensures { λ r. ⌜ (off (marks .ready) ≡ true → (t : Table) (d : List ℕ) → Gives (ofParts marks t) (effect (ofParts marks t) (now (message .entry))) d (turned r t) d) ⌝ }
 {
     match messages::read_header(message, messages::CLIENT_READY, messages::CLIENT_READY) {
         Header::Refused(e) => refuse(marks, e),
@@ -82,7 +82,7 @@ pub(crate) fn receive_dismiss(
     xs: &mut [i32; 256],
     ys: &mut [i32; 256],
 ) -> Turn
-    ensures { λ r. ⌜ Gives (held marks (tableOf (now (states .entry)) (now (xs .entry)) (now (ys .entry)))) (dismissEffect (held marks (tableOf (now (states .entry)) (now (xs .entry)) (now (ys .entry)))) (now (body .entry))) (now (output .entry)) (turned r (tableOf (now (states .exit)) (now (xs .exit)) (now (ys .exit)))) (now (output .exit)) ⌝ }
+    ensures { λ r. ⌜ Gives (ofParts marks (tableFrom (now (states .entry)) (now (xs .entry)) (now (ys .entry)))) (dismissEffect (ofParts marks (tableFrom (now (states .entry)) (now (xs .entry)) (now (ys .entry)))) (now (body .entry))) (now (output .entry)) (turned r (tableFrom (now (states .exit)) (now (xs .exit)) (now (ys .exit)))) (now (output .exit)) ⌝ }
 {
     match messages::read_dismiss_body(body) {
         ReadDismiss::Refused(e) => refuse(marks, e),

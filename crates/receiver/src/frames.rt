@@ -9,9 +9,9 @@ use touch::CheckedBody;
 use touch::TouchHead;
 ghost use mathlib.Core.Path.{_≡_};
 ghost use mathlib.Core.Bool.{cond, not};
-ghost use Rattle.contacts.specs.Ruling.{tableOf, Counted};
-ghost use Rattle.receiver.specs.Receive.{mark};
-ghost use Rattle.receiver.specs.Events.{held, turned, untimedBy, judgedBy, begunBy, answerTo, Gives, touchEffect, Tallies, Rooms, Carries};
+ghost use Rattle.contacts.specs.Ruling.{tableFrom, Counted};
+ghost use Rattle.receiver.specs.Receive.{mark, untimedBy, judgedBy, begunBy, untimed};
+ghost use Rattle.receiver.specs.Events.{ofParts, turned, answerOfRun, Gives, touchEffect, Tallies, Rooms, Carries};
 
 // How many contacts there are: an id is a byte.
 const CONTACTS: usize = 256;
@@ -72,7 +72,7 @@ fn active_in(states: [u8; 256]) -> u16
 
 // The answer of a run.
 fn answer_to(run: Run, time: Milliseconds) -> Answer
-    ensures { λ r. ⌜ r ≡ answerTo run time ⌝ }
+    ensures { λ r. ⌜ r ≡ answerOfRun run time ⌝ }
 {
     Answer {
         refusal: 0,
@@ -94,7 +94,7 @@ fn tally(
     xs: &[i32; 256],
     ys: &[i32; 256],
 ) -> usize
-    ensures { λ r. ⌜ Tallies (held marks (tableOf (now (states .entry)) (now (xs .entry)) (now (ys .entry)))) n (now (frames .entry)) r (now (output .entry)) (now (output .exit)) ⌝ }
+    ensures { λ r. ⌜ Tallies (ofParts marks (tableFrom (now (states .entry)) (now (xs .entry)) (now (ys .entry)))) n (now (frames .entry)) r (now (output .entry)) (now (output .exit)) ⌝ }
 {
     let settings = marks.settings;
     let untimed = is_untimed(settings.flags);
@@ -130,7 +130,7 @@ fn has_room(
     xs: &[i32; 256],
     ys: &[i32; 256],
 ) -> bool
-    ensures { λ r. ⌜ Rooms (held marks (tableOf (now (states .entry)) (now (xs .entry)) (now (ys .entry)))) n (now (frames .entry)) bytes r (now (output .entry)) (now (output .exit)) ⌝ }
+    ensures { λ r. ⌜ Rooms (ofParts marks (tableFrom (now (states .entry)) (now (xs .entry)) (now (ys .entry)))) n (now (frames .entry)) bytes r (now (output .entry)) (now (output .exit)) ⌝ }
 {
     if bytes / 2 + CONTACTS <= output.len() / house::RECORD_BYTES {
         return true;
@@ -149,7 +149,7 @@ fn carry_out(
     xs: &mut [i32; 256],
     ys: &mut [i32; 256],
 ) -> Turn
-    ensures { λ r. ⌜ Carries (held marks (tableOf (now (states .entry)) (now (xs .entry)) (now (ys .entry)))) head (now (frames .entry)) (now (output .entry)) (turned r (tableOf (now (states .exit)) (now (xs .exit)) (now (ys .exit)))) (now (output .exit)) ⌝ }
+    ensures { λ r. ⌜ Carries (ofParts marks (tableFrom (now (states .entry)) (now (xs .entry)) (now (ys .entry)))) head (now (frames .entry)) (now (output .entry)) (turned r (tableFrom (now (states .exit)) (now (xs .exit)) (now (ys .exit)))) (now (output .exit)) ⌝ }
 {
     let settings = marks.settings;
     let untimed = is_untimed(settings.flags);
@@ -189,7 +189,7 @@ pub(crate) fn receive_touch(
     xs: &mut [i32; 256],
     ys: &mut [i32; 256],
 ) -> Turn
-    ensures { λ r. ⌜ Gives (held marks (tableOf (now (states .entry)) (now (xs .entry)) (now (ys .entry)))) (touchEffect (held marks (tableOf (now (states .entry)) (now (xs .entry)) (now (ys .entry)))) (now (body .entry))) (now (output .entry)) (turned r (tableOf (now (states .exit)) (now (xs .exit)) (now (ys .exit)))) (now (output .exit)) ⌝ }
+    ensures { λ r. ⌜ Gives (ofParts marks (tableFrom (now (states .entry)) (now (xs .entry)) (now (ys .entry)))) (touchEffect (ofParts marks (tableFrom (now (states .entry)) (now (xs .entry)) (now (ys .entry)))) (now (body .entry))) (now (output .entry)) (turned r (tableFrom (now (states .exit)) (now (xs .exit)) (now (ys .exit)))) (now (output .exit)) ⌝ }
 {
     let settings = marks.settings;
     let judged = is_judged(settings.flags, marks.begun);

@@ -6,9 +6,9 @@ use messages::Header;
 use messages::Ready;
 use paper::Milliseconds;
 ghost use mathlib.Core.Path.{_≡_};
-ghost use Rattle.contacts.specs.Ruling.{tableOf};
+ghost use Rattle.contacts.specs.Ruling.{tableFrom};
 ghost use Rattle.receiver.specs.Receive as spec;
-ghost use Rattle.receiver.specs.Events.{held, turned, Gives};
+ghost use Rattle.receiver.specs.Events.{ofParts, turned, Gives};
 
 // One connection's receiver. Each mark is off where it is 0; a fresh receiver is all zeros.
 #[repr(C)]
@@ -85,7 +85,7 @@ fn take(
     xs: &mut [i32; 256],
     ys: &mut [i32; 256],
 ) -> Turn
-    ensures { λ r. ⌜ Gives (held marks (tableOf (now (states .entry)) (now (xs .entry)) (now (ys .entry)))) (spec.effect (held marks (tableOf (now (states .entry)) (now (xs .entry)) (now (ys .entry)))) (now (message .entry))) (now (output .entry)) (turned r (tableOf (now (states .exit)) (now (xs .exit)) (now (ys .exit)))) (now (output .exit)) ⌝ }
+    ensures { λ r. ⌜ Gives (ofParts marks (tableFrom (now (states .entry)) (now (xs .entry)) (now (ys .entry)))) (spec.effect (ofParts marks (tableFrom (now (states .entry)) (now (xs .entry)) (now (ys .entry)))) (now (message .entry))) (now (output .entry)) (turned r (tableFrom (now (states .exit)) (now (xs .exit)) (now (ys .exit)))) (now (output .exit)) ⌝ }
 {
     if marks.ready == 0 {
         return events::receive_ready(marks, message);

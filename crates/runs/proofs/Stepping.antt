@@ -14,21 +14,24 @@ use Rattle.formats.specs.Format.{got}
 use Rattle.house.specs.declared.Head.{Head}
 use Rattle.house.specs.declared.Contact.{Contact}
 use Rattle.house.proofs.WellFormed.{never}
+use Rattle.house.proofs.Round.{length-contact}
 use Rattle.framing.specs.Frame.{Frame, headOf}
 use Rattle.frame_records.proofs.Laws.{frame-is, length-frame}
-use Rattle.contacts.specs.Table.{Table, contacts, withContact}
-use Rattle.contacts.specs.Conforms.{Rules, moved, after}
-use Rattle.contacts.specs.Machine.{Machine, Counts, plus, countOf, Verdict, injected, ignored, cancelled, verdict}
-use Rattle.contacts.specs.Ruling.{contactsOf, ofRead, rulesOf, rulingOf, unread, Counted}
+use Rattle.machine.specs.Table.{Table, contacts, withContact}
+use Rattle.machine.specs.Rules.{Rules}
+use Rattle.machine.specs.Conforms.{moved, tableAfter}
+use Rattle.machine.specs.Machine.{Machine, Counts, plus, countOf, Verdict, injected, ignored, cancelled, verdict}
+use Rattle.contacts.specs.Touch.{touchView, touchRules}
+use Rattle.contacts.specs.Ruling.{contactsOf, ofRead, rulingOf, unread, Counted}
 use Rattle.contacts.specs.declared.Ruling.{Ruling}
 use Rattle.contacts.specs.declared.Ruling.the-variants as Ruling
-use Rattle.contacts.proofs.Machine.{injected-machine, injected-bytes, ignored-machine, ignored-bytes, cancelled-machine, cancelled-bytes, cancels-length}
+use Rattle.machine.proofs.Machine.{injected-machine, injected-bytes, ignored-machine, ignored-bytes, cancelled-machine, cancelled-bytes, cancels-length}
 use Rattle.contacts.proofs.Judgement.{ruled-injected, ruled-ignored, ruled-cancelled, counted-resting}
 use Rattle.moves.specs.Moves.{Ends}
 use Rattle.moves.proofs.Moving.{applies-after}
 use Rattle.runs.specs.declared.Run.{Run}
 use Rattle.runs.specs.declared.Stepped.{Stepped}
-use Rattle.runs.specs.Runs.{Lays, machineOf, ignoredRun, Injects, Cancels, Turned, Steps}
+use Rattle.runs.specs.Runs.{Lays, machineIn, ignoredRun, Injects, Cancels, Turned, Steps}
 
 -- ---- what is laid
 
@@ -51,63 +54,63 @@ lays-none wet d = record { kept = λ n. refl; written = λ y room. refl }
 
 -- ---- the table keeps its length
 
-pub after-long : (rules : Rules) (t : Table) (cs : List Contact) → length (t .states) ≡ contacts → length (after rules t cs .states) ≡ contacts
-unfolding after moved withContact
+pub after-long : (rules : Rules Contact) (t : Table) (cs : List Contact) → length (t .states) ≡ contacts → length (tableAfter touchView (rules .next) t cs .states) ≡ contacts
+unfolding tableAfter moved withContact
 after-long rules t [] h = h
-after-long rules t (c ∷ cs) h = after-long rules (moved rules t c) cs (simp length-set h)
+after-long rules t (c ∷ cs) h = after-long rules (moved touchView (rules .next) t c) cs (simp length-set h)
 
 -- ---- a count that goes up by one frame
 
-counted-as : (rules : Rules) (m : Machine) (cs : List Contact) (a b : Counts) (v : Verdict) → verdict rules m cs ≡ v → b ≡ plus a (countOf v) → b ≡ plus a (countOf (verdict rules m cs))
+counted-as : (rules : Rules Contact) (m : Machine) (cs : List Contact) (a b : Counts) (v : Verdict) → verdict touchView rules m cs ≡ v → b ≡ plus a (countOf v) → b ≡ plus a (countOf (verdict touchView rules m cs))
 counted-as rules m cs a b v e h = rw e h
 
 -- ---- the three rulings
 
 module _ (head : Head) (l : List ℕ) (wet : Bool) (most : ℕ) (run : Run) (t : Table) (before : List ℕ) where
   abbrev ruled : Ruling → Type 0
-  ruled r = Counted (run .active) (t .states) → r ≡ ofRead (unread (run .running)) (rulingOf (rulesOf most) (machineOf run t)) (contactsOf (head .count) l)
+  ruled r = Counted (run .active) (t .states) → r ≡ ofRead (unread (run .running)) (rulingOf (touchRules most) (machineIn run t)) (contactsOf (head .count) l)
 
   module _ (f : Frame Contact) (rest : List ℕ) (h : head ≡ headOf f) (e : contactsOf (head .count) l ≡ got (f .contacts) rest) (a : Counted (run .active) (t .states)) where
-    read-as : (r : Ruling) → ruled r → r ≡ rulingOf (rulesOf most) (machineOf run t) (f .contacts)
+    read-as : (r : Ruling) → ruled r → r ≡ rulingOf (touchRules most) (machineIn run t) (f .contacts)
     read-as r q = rw e at (q a)
 
     turned-injected : (k : ℕ) (r : Stepped) (u : Table) (after : List ℕ) → ruled (Ruling.Injected k) → Injects head k l wet run r t u before after
-        → Turned (rulesOf most) f wet run (r .run) t u before after
+        → Turned (touchRules most) f wet run (r .run) t u before after
     turned-injected k r u after q i =
-        let v = ruled-injected (rulesOf most) (machineOf run t) (f .contacts) k (read-as (Ruling.Injected k) q) in
-        let x = applies-after most (head .count) l (r .end) t u (f .contacts) rest (i .carried .table) e in
+        let v = ruled-injected (touchRules most) (machineIn run t) (f .contacts) k (read-as (Ruling.Injected k) q) in
+        let x = applies-after (head .count) l (r .end) t u (f .contacts) rest (i .carried .table) e in
         let n : head .count ≡ length (f .contacts) = ap (λ (g : Head). g .count) h in
-        let b = injected-bytes (rulesOf most) (machineOf run t) f (v .verdict) in
+        let b = injected-bytes touchView (touchRules most) (machineIn run t) f (v .verdict) in
         rw (i .answer) (record {
-          machine = rw x (sym (injected-machine (rulesOf most) (machineOf run t) f (v .verdict)));
-          active = rw x (record { all = after-long (rulesOf most) t (f .contacts) (a .all); same = v .active });
-          counts = counted-as (rulesOf most) (machineOf run t) (f .contacts) _ _ injected (v .verdict) (λ j. record { injected = run .injected + 1; ignored = sym (add-zero (run .ignored)) j; cancelled = sym (add-zero (run .cancelled)) j });
+          machine = rw x (sym (injected-machine touchView (touchRules most) (machineIn run t) f (v .verdict)));
+          active = rw x (record { all = after-long (touchRules most) t (f .contacts) (a .all); same = v .active });
+          counts = counted-as (touchRules most) (machineIn run t) (f .contacts) _ _ injected (v .verdict) (λ j. record { injected = run .injected + 1; ignored = sym (add-zero (run .ignored)) j; cancelled = sym (add-zero (run .cancelled)) j });
           records = rw (b, length-frame f) (omega arith);
           output = rw (b, frame-is f, ← h) (i .carried .output (f .contacts) rest e);
         })
 
-    turned-ignored : (r : Run) → ruled Ruling.Ignored → r ≡ ignoredRun run → Turned (rulesOf most) f wet run r t t before before
+    turned-ignored : (r : Run) → ruled Ruling.Ignored → r ≡ ignoredRun run → Turned (touchRules most) f wet run r t t before before
     turned-ignored r q i =
-        let v = ruled-ignored (rulesOf most) (machineOf run t) (f .contacts) (read-as Ruling.Ignored q) in
-        let b = ignored-bytes (rulesOf most) (machineOf run t) f v in
+        let v = ruled-ignored (touchRules most) (machineIn run t) (f .contacts) (read-as Ruling.Ignored q) in
+        let b = ignored-bytes touchView (touchRules most) (machineIn run t) f v in
         rw i (record {
-          machine = sym (ignored-machine (rulesOf most) (machineOf run t) f v);
+          machine = sym (ignored-machine touchView (touchRules most) (machineIn run t) f v);
           active = a;
-          counts = counted-as (rulesOf most) (machineOf run t) (f .contacts) _ _ ignored v (λ j. record { injected = sym (add-zero (run .injected)) j; ignored = run .ignored + 1; cancelled = sym (add-zero (run .cancelled)) j });
+          counts = counted-as (touchRules most) (machineIn run t) (f .contacts) _ _ ignored v (λ j. record { injected = sym (add-zero (run .injected)) j; ignored = run .ignored + 1; cancelled = sym (add-zero (run .cancelled)) j });
           records = rw b (omega arith);
           output = rw b (lays-none wet before);
         })
 
-    turned-cancelled : (r : Run) (u : Table) (after : List ℕ) → ruled Ruling.Cancelled → Cancels wet run r t u before after → Turned (rulesOf most) f wet run r t u before after
+    turned-cancelled : (r : Run) (u : Table) (after : List ℕ) → ruled Ruling.Cancelled → Cancels wet run r t u before after → Turned (touchRules most) f wet run r t u before after
     turned-cancelled r u after q i =
-        let v = ruled-cancelled (rulesOf most) (machineOf run t) (f .contacts) (read-as Ruling.Cancelled q) in
-        let b = cancelled-bytes (rulesOf most) (machineOf run t) f v in
-        let n = cancels-length t (a .all) in
+        let v = ruled-cancelled (touchRules most) (machineIn run t) (f .contacts) (read-as Ruling.Cancelled q) in
+        let b = cancelled-bytes touchView (touchRules most) (machineIn run t) f v in
+        let n = cancels-length touchView t length-contact (a .all) in
         let z = a .same in
         rw (i .answer) (record {
-          machine = rw (i .table) (sym (cancelled-machine (rulesOf most) (machineOf run t) f v));
+          machine = rw (i .table) (sym (cancelled-machine touchView (touchRules most) (machineIn run t) f v));
           active = rw (i .table) counted-resting;
-          counts = counted-as (rulesOf most) (machineOf run t) (f .contacts) _ _ cancelled v (λ j. record { injected = sym (add-zero (run .injected)) j; ignored = sym (add-zero (run .ignored)) j; cancelled = run .cancelled + 1 });
+          counts = counted-as (touchRules most) (machineIn run t) (f .contacts) _ _ cancelled v (λ j. record { injected = sym (add-zero (run .injected)) j; ignored = sym (add-zero (run .ignored)) j; cancelled = run .cancelled + 1 });
           records = rw (b, n) (omega arith);
           output = rw b (i .output);
         })
@@ -115,7 +118,7 @@ module _ (head : Head) (l : List ℕ) (wet : Bool) (most : ℕ) (run : Run) (t :
   -- ---- the contract, of each
 
   pub steps-injected : (k : ℕ) (r : Stepped) (u : Table) (after : List ℕ) → ruled (Ruling.Injected k) → Injects head k l wet run r t u before after
-      → Steps head l wet most run r t u before after
+      → Steps head l wet (touchRules most) run r t u before after
   steps-injected k r u after q i =
       let x = i .answer in
       let n = i .small in
@@ -128,7 +131,7 @@ module _ (head : Head) (l : List ℕ) (wet : Bool) (most : ℕ) (run : Run) (t :
       }
 
   pub steps-ignored : (r : Run) (end : ℕ) → ruled Ruling.Ignored → r ≡ ignoredRun run → Ends (head .count) l end
-      → Steps head l wet most run (record { run = r; end = end }) t t before before
+      → Steps head l wet (touchRules most) run (record { run = r; end = end }) t t before before
   steps-ignored r end q i p =
       record {
         frames = rw i (omega arith);
@@ -139,7 +142,7 @@ module _ (head : Head) (l : List ℕ) (wet : Bool) (most : ℕ) (run : Run) (t :
       }
 
   pub steps-cancelled : (r : Run) (end : ℕ) (u : Table) (after : List ℕ) → ruled Ruling.Cancelled → Cancels wet run r t u before after → Ends (head .count) l end
-      → Steps head l wet most run (record { run = r; end = end }) t u before after
+      → Steps head l wet (touchRules most) run (record { run = r; end = end }) t u before after
   steps-cancelled r end u after q i p =
       let x = i .answer in
       let n = i .small in

@@ -8,22 +8,23 @@ use native.Mathlib.Omega.{arith}
 use lib.ListN.{length}
 use Rattle.formats.specs.Format.{got, readSeries}
 use Rattle.house.specs.declared.Contact.{Contact}
-use Rattle.framing.specs.Frame.{Frame}
+use Rattle.framing.specs.Frame.{Frame, timedFrames}
 use Rattle.touch.proofs.Passes.{frameBy}
-use Rattle.contacts.specs.Table.{Table, countActive}
-use Rattle.contacts.specs.Conforms.{Rules}
-use Rattle.contacts.specs.Machine.{Machine, Counts, runBytes}
-use Rattle.contacts.specs.Ruling.{rulesOf, Counted}
+use Rattle.machine.specs.Table.{Table, countActive}
+use Rattle.machine.specs.Rules.{Rules}
+use Rattle.machine.specs.Machine.{Machine, Counts, runBytes}
+use Rattle.contacts.specs.Touch.{touchView}
+use Rattle.contacts.specs.Ruling.{Counted}
 use Rattle.runs.specs.declared.Run.{Run}
-use Rattle.runs.specs.Runs.{timedFrames, Ran, Runs}
+use Rattle.runs.specs.Runs.{Ran, Runs}
 
-module _ (rules : Rules) (fs : List (Frame Contact)) (wet running : Bool) (r r′ : Run) (t u u′ : Table) (before after after′ : List ℕ)
+module _ (rules : Rules Contact) (fs : List (Frame Contact)) (wet running : Bool) (r r′ : Run) (t u u′ : Table) (before after after′ : List ℕ)
     (x : Ran rules fs wet running r t u before after) (y : Ran rules fs wet running r′ t u′ before after′) where
   pub record Same : Type 0 where
     pub run : r ≡ r′
     pub table : u ≡ u′
     pub kept : wet ≡ false → after ≡ after′
-    pub written : wet ≡ true → length (runBytes rules (record { table = t; running = running }) fs) ≤ length before → after ≡ after′
+    pub written : wet ≡ true → length (runBytes touchView rules (record { table = t; running = running }) fs) ≤ length before → after ≡ after′
 
   run-same : r ≡ r′
   run-same =
@@ -50,9 +51,9 @@ module _ (rules : Rules) (fs : List (Frame Contact)) (wet running : Bool) (r r�
         written = λ e room. x .output .written e room ∙ sym (y .output .written e room);
       }
 
-pub run-frames-unique : (n : ℕ) (l : List ℕ) (untimed wet running : Bool) (most active : ℕ) (r r′ : Run) (t u u′ : Table) (before after after′ : List ℕ) (fs : List (Frame Contact)) (rest : List ℕ)
-    (x : Runs n l untimed wet running most active r t u before after) (y : Runs n l untimed wet running most active r′ t u′ before after′)
+pub run-frames-unique : (n : ℕ) (l : List ℕ) (untimed wet running : Bool) (rules : Rules Contact) (active : ℕ) (r r′ : Run) (t u u′ : Table) (before after after′ : List ℕ) (fs : List (Frame Contact)) (rest : List ℕ)
+    (x : Runs n l untimed wet running rules active r t u before after) (y : Runs n l untimed wet running rules active r′ t u′ before after′)
     → (e : readSeries frameBy false n l ≡ got fs rest) (c : Counted active (t .states))
-    → Same (rulesOf most) (timedFrames untimed fs) wet running r r′ t u u′ before after after′ (x .ran fs rest e c) (y .ran fs rest e c)
-run-frames-unique n l untimed wet running most active r r′ t u u′ before after after′ fs rest x y e c =
-    ran-same (rulesOf most) (timedFrames untimed fs) wet running r r′ t u u′ before after after′ (x .ran fs rest e c) (y .ran fs rest e c)
+    → Same rules (timedFrames untimed fs) wet running r r′ t u u′ before after after′ (x .ran fs rest e c) (y .ran fs rest e c)
+run-frames-unique n l untimed wet running rules active r r′ t u u′ before after after′ fs rest x y e c =
+    ran-same rules (timedFrames untimed fs) wet running r r′ t u u′ before after after′ (x .ran fs rest e c) (y .ran fs rest e c)

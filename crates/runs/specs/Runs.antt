@@ -2,7 +2,7 @@
 use Prim.Native.Nat.{ℕ, _+_, _*_, _≤_, _<_}
 use mathlib.Core.Path.{_≡_}
 use mathlib.Core.Bool.{Bool, true, false, cond}
-use mathlib.Core.List.{List, map, _++_}
+use mathlib.Core.List.{List, _++_}
 use lib.ListN.{length}
 use Rattle.slices.specs.Writing.{laid}
 use Rattle.formats.specs.Format.{got, readSeries}
@@ -11,12 +11,13 @@ use Rattle.house.specs.Layout.{headBytes}
 use Rattle.house.specs.Fields.{recordBytes}
 use Rattle.house.specs.declared.Head.{Head}
 use Rattle.house.specs.declared.Contact.{Contact}
-use Rattle.framing.specs.Frame.{Frame, headOf, withoutOffset, contactsBytes}
+use Rattle.framing.specs.Frame.{Frame, headOf, timedFrames, contactsBytes}
 use Rattle.touch.specs.Touch.{frame, touchRecord}
-use Rattle.contacts.specs.Table.{Table, resting}
-use Rattle.contacts.specs.Conforms.{Rules}
-use Rattle.contacts.specs.Machine.{Machine, Counts, plus, countOf, verdict, cancels, stepMachine, stepBytes, runMachine, runBytes, runCounts}
-use Rattle.contacts.specs.Ruling.{contactsOf, rulesOf, Counted}
+use Rattle.machine.specs.Table.{Table, resting}
+use Rattle.machine.specs.Rules.{Rules}
+use Rattle.machine.specs.Machine.{Machine, Counts, plus, countOf, verdict, cancels, stepMachine, stepBytes, runMachine, runBytes, runCounts}
+use Rattle.contacts.specs.Touch.{touchView}
+use Rattle.contacts.specs.Ruling.{contactsOf, Counted}
 use Rattle.moves.specs.Moves.{Ends, Applies}
 use Rattle.runs.specs.declared.Run.{Run}
 use Rattle.runs.specs.declared.Stepped.{Stepped}
@@ -25,9 +26,6 @@ use Rattle.runs.specs.declared.Stepped.{Stepped}
 
 abbrev pub timedHead : Bool → Head → Head
 timedHead untimed h = cond untimed (record { count = h .count; offset = record { 0 = 0 } }) h
-
-unfoldable pub timedFrames : Bool → List (Frame Contact) → List (Frame Contact)
-timedFrames untimed fs = cond untimed (map withoutOffset fs) fs
 
 -- ---- what is written
 
@@ -50,15 +48,15 @@ pub record CarriesFrame (wet : Bool) (head : Head) (l : List ℕ) (end : ℕ) (t
 
 -- ---- a run so far
 
-abbrev pub machineOf : Run → Table → Machine
-machineOf r t = record { table = t; running = r .running }
+abbrev pub machineIn : Run → Table → Machine
+machineIn r t = record { table = t; running = r .running }
 
 abbrev pub countsOf : Run → Counts
 countsOf r = record { injected = r .injected; ignored = r .ignored; cancelled = r .cancelled }
 
 -- how many frames it has come over
-abbrev pub framesOf : Run → ℕ
-framesOf r = r .injected + r .ignored + r .cancelled
+abbrev pub framesPassed : Run → ℕ
+framesPassed r = r .injected + r .ignored + r .cancelled
 
 abbrev pub started : Bool → ℕ → Run
 started running active = record { running = running; active = active; injected = 0; ignored = 0; cancelled = 0; records = 0 }
@@ -87,24 +85,24 @@ pub record Cancels (wet : Bool) (run r : Run) (t u : Table) (before after : List
   pub answer : r ≡ cancelledRun run
   pub small : run .active < 65536
   pub table : u ≡ resting
-  pub output : Lays wet (cancels t) before after
+  pub output : Lays wet (cancels touchView t) before after
 
 -- a frame f, after which the table is u
-pub record Turned (rules : Rules) (f : Frame Contact) (wet : Bool) (run r : Run) (t u : Table) (before after : List ℕ) : Type 0 where
-  pub machine : machineOf r u ≡ stepMachine rules (machineOf run t) f
+pub record Turned (rules : Rules Contact) (f : Frame Contact) (wet : Bool) (run r : Run) (t u : Table) (before after : List ℕ) : Type 0 where
+  pub machine : machineIn r u ≡ stepMachine touchView rules (machineIn run t) f
   pub active : Counted (r .active) (u .states)
-  pub counts : countsOf r ≡ plus (countsOf run) (countOf (verdict rules (machineOf run t) (f .contacts)))
-  pub records : recordBytes * r .records ≡ recordBytes * run .records + length (stepBytes rules (machineOf run t) f)
-  pub output : Lays wet (stepBytes rules (machineOf run t) f) before after
+  pub counts : countsOf r ≡ plus (countsOf run) (countOf (verdict touchView rules (machineIn run t) (f .contacts)))
+  pub records : recordBytes * r .records ≡ recordBytes * run .records + length (stepBytes touchView rules (machineIn run t) f)
+  pub output : Lays wet (stepBytes touchView rules (machineIn run t) f) before after
 
 -- the frame of a head whose contacts are at the front of l; the bounds hold whatever is read
-pub record Steps (head : Head) (l : List ℕ) (wet : Bool) (most : ℕ) (run : Run) (r : Stepped) (t u : Table) (before after : List ℕ) : Type 0 where
-  pub frames : framesOf (r .run) ≤ framesOf run + 1
+pub record Steps (head : Head) (l : List ℕ) (wet : Bool) (rules : Rules Contact) (run : Run) (r : Stepped) (t u : Table) (before after : List ℕ) : Type 0 where
+  pub frames : framesPassed (r .run) ≤ framesPassed run + 1
   pub more : run .records ≤ r .run .records
   pub small : r .run .records ≤ run .records + 65536
   pub passed : Ends (head .count) l (r .end)
   pub turned : (f : Frame Contact) (rest : List ℕ) → head ≡ headOf f → contactsOf (head .count) l ≡ got (f .contacts) rest → Counted (run .active) (t .states)
-      → Turned (rulesOf most) f wet run (r .run) t u before after
+      → Turned rules f wet run (r .run) t u before after
 
 -- ---- the frames of a message
 
@@ -114,12 +112,12 @@ pub record Passes (pos records room r : ℕ) : Type 0 where
   pub behind : pos + recordBytes * records ≤ room → r ≡ pos + recordBytes * records
 
 -- the frames fs, from a mode and a table t on
-pub record Ran (rules : Rules) (fs : List (Frame Contact)) (wet running : Bool) (r : Run) (t u : Table) (before after : List ℕ) : Type 0 where
-  pub machine : machineOf r u ≡ runMachine rules (record { table = t; running = running }) fs
+pub record Ran (rules : Rules Contact) (fs : List (Frame Contact)) (wet running : Bool) (r : Run) (t u : Table) (before after : List ℕ) : Type 0 where
+  pub machine : machineIn r u ≡ runMachine touchView rules (record { table = t; running = running }) fs
   pub active : Counted (r .active) (u .states)
-  pub counts : countsOf r ≡ runCounts rules (record { table = t; running = running }) fs
-  pub records : recordBytes * r .records ≡ length (runBytes rules (record { table = t; running = running }) fs)
-  pub output : Lays wet (runBytes rules (record { table = t; running = running }) fs) before after
+  pub counts : countsOf r ≡ runCounts touchView rules (record { table = t; running = running }) fs
+  pub records : recordBytes * r .records ≡ length (runBytes touchView rules (record { table = t; running = running }) fs)
+  pub output : Lays wet (runBytes touchView rules (record { table = t; running = running }) fs) before after
 
 -- no more records than these, whatever is read: of 255 frames at most, each gives fewer than 65536
 abbrev pub mostRecords : ℕ
@@ -127,7 +125,7 @@ mostRecords = 16711680
 
 -- THE CONTRACT OF A RUN over the n frames at the front of l, where they can be read and the number of active contacts is the table's. Of others
 -- only the bound is said.
-pub record Runs (n : ℕ) (l : List ℕ) (untimed wet running : Bool) (most active : ℕ) (r : Run) (t u : Table) (before after : List ℕ) : Type 0 where
+pub record Runs (n : ℕ) (l : List ℕ) (untimed wet running : Bool) (rules : Rules Contact) (active : ℕ) (r : Run) (t u : Table) (before after : List ℕ) : Type 0 where
   pub small : r .records ≤ mostRecords
   pub ran : (fs : List (Frame Contact)) (rest : List ℕ) → readSeries (λ b. frame strict b .read) false n l ≡ got fs rest → Counted active (t .states)
-      → Ran (rulesOf most) (timedFrames untimed fs) wet running r t u before after
+      → Ran rules (timedFrames untimed fs) wet running r t u before after

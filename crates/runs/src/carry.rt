@@ -5,7 +5,7 @@ use touch::ReadContact;
 ghost use Prim.Native.Nat.{_*_, _≤_};
 ghost use lib.ListN.{length};
 ghost use Rattle.house.specs.Fields.{recordBytes};
-ghost use Rattle.contacts.specs.Ruling.{tableOf};
+ghost use Rattle.contacts.specs.Ruling.{tableFrom};
 ghost use Rattle.runs.specs.Runs.{CarriesContacts, CarriesFrame};
 
 // A record for each of n contacts, each where the one before it ended, and each contact stored with its next state.
@@ -18,7 +18,7 @@ fn carry_contacts(
     ys: &mut [i32; 256],
 ) -> usize
     requires { ⌜ recordBytes * n ≤ length (now out) ⌝ }
-    ensures { λ r. ⌜ CarriesContacts n (now (rest .entry)) r (tableOf (now (states .entry)) (now (xs .entry)) (now (ys .entry))) (tableOf (now (states .exit)) (now (xs .exit)) (now (ys .exit))) (now (out .entry)) (now (out .exit)) ⌝ }
+    ensures { λ r. ⌜ CarriesContacts n (now (rest .entry)) r (tableFrom (now (states .entry)) (now (xs .entry)) (now (ys .entry))) (tableFrom (now (states .exit)) (now (xs .exit)) (now (ys .exit))) (now (out .entry)) (now (out .exit)) ⌝ }
 {
     let mut pos: usize = 0;
     let mut at: usize = 0;
@@ -47,7 +47,7 @@ pub(crate) fn carry(
     xs: &mut [i32; 256],
     ys: &mut [i32; 256],
 ) -> usize
-    ensures { λ r. ⌜ CarriesFrame wet head (now (rest .entry)) r (tableOf (now (states .entry)) (now (xs .entry)) (now (ys .entry))) (tableOf (now (states .exit)) (now (xs .exit)) (now (ys .exit))) (now (out .entry)) (now (out .exit)) ⌝ }
+    ensures { λ r. ⌜ CarriesFrame wet head (now (rest .entry)) r (tableFrom (now (states .entry)) (now (xs .entry)) (now (ys .entry))) (tableFrom (now (states .exit)) (now (xs .exit)) (now (ys .exit))) (now (out .entry)) (now (out .exit)) ⌝ }
 {
     let count = head.count as usize;
     if wet {

@@ -6,7 +6,8 @@ use house::Head;
 use paper::Microseconds;
 ghost use Prim.Native.Nat.{_+_, _*_, _≤_};
 ghost use mathlib.Core.Path.{_≡_};
-ghost use Rattle.contacts.specs.Ruling.{tableOf};
+ghost use Rattle.contacts.specs.Touch.{touchRules};
+ghost use Rattle.contacts.specs.Ruling.{tableFrom};
 ghost use Rattle.runs.specs.Runs.{timedHead, started, Passes, Runs};
 
 // What a run over frames has come to, beside the table: the mode, how many contacts are active, what became of the frames, and
@@ -79,7 +80,7 @@ pub fn run_frames(
     xs: &mut [i32; 256],
     ys: &mut [i32; 256],
 ) -> Run
-    ensures { λ r. ⌜ Runs n (now (frames .entry)) untimed wet running most active r (tableOf (now (states .entry)) (now (xs .entry)) (now (ys .entry))) (tableOf (now (states .exit)) (now (xs .exit)) (now (ys .exit))) (now (out .entry)) (now (out .exit)) ⌝ }
+    ensures { λ r. ⌜ Runs n (now (frames .entry)) untimed wet running (touchRules most) active r (tableFrom (now (states .entry)) (now (xs .entry)) (now (ys .entry))) (tableFrom (now (states .exit)) (now (xs .exit)) (now (ys .exit))) (now (out .entry)) (now (out .exit)) ⌝ }
 {
     let mut run = start(running, active);
     let mut pos: usize = 0;

@@ -7,10 +7,11 @@ use house::Head;
 use touch::End;
 ghost use Prim.Native.Nat.{_+_, _≤_, _<_};
 ghost use mathlib.Core.Path.{_≡_};
-ghost use Rattle.contacts.specs.Machine.{cancels};
-ghost use Rattle.contacts.specs.Ruling.{contactsOf, tableOf, Decides};
+ghost use Rattle.machine.specs.Machine.{cancels};
+ghost use Rattle.contacts.specs.Touch.{touchView, touchRules};
+ghost use Rattle.contacts.specs.Ruling.{contactsOf, tableFrom, Decides};
 ghost use Rattle.moves.specs.Moves.{Ends};
-ghost use Rattle.runs.specs.Runs.{machineOf, ignoredRun, framesOf, Lays, Injects, Cancels, Steps};
+ghost use Rattle.runs.specs.Runs.{machineIn, ignoredRun, framesPassed, Lays, Injects, Cancels, Steps};
 
 // A conforming frame: its records, where they are to be written, and its contacts in the table.
 fn inject(
@@ -24,8 +25,8 @@ fn inject(
     xs: &mut [i32; 256],
     ys: &mut [i32; 256],
 ) -> Stepped
-    requires { ⌜ (framesOf run < 255) × (run .records ≤ 4294967296) ⌝ }
-    ensures { λ r. ⌜ Injects head active (now (rest .entry)) wet run r (tableOf (now (states .entry)) (now (xs .entry)) (now (ys .entry))) (tableOf (now (states .exit)) (now (xs .exit)) (now (ys .exit))) (now (out .entry)) (now (out .exit)) ⌝ }
+    requires { ⌜ (framesPassed run < 255) × (run .records ≤ 4294967296) ⌝ }
+    ensures { λ r. ⌜ Injects head active (now (rest .entry)) wet run r (tableFrom (now (states .entry)) (now (xs .entry)) (now (ys .entry))) (tableFrom (now (states .exit)) (now (xs .exit)) (now (ys .exit))) (now (out .entry)) (now (out .exit)) ⌝ }
 {
     let count = head.count as usize;
     let end = carry(out, wet, head, rest, states, xs, ys);
@@ -45,7 +46,7 @@ fn inject(
 
 // A cancel for each active contact, where they are to be written.
 fn write_cancelled(out: &mut [u8], wet: bool, states: &[u8; 256], xs: &[i32; 256], ys: &[i32; 256])
-    ensures { λ _. ⌜ Lays wet (cancels (tableOf (now (states .entry)) (now (xs .entry)) (now (ys .entry)))) (now (out .entry)) (now (out .exit)) ⌝ }
+    ensures { λ _. ⌜ Lays wet (cancels touchView (tableFrom (now (states .entry)) (now (xs .entry)) (now (ys .entry)))) (now (out .entry)) (now (out .exit)) ⌝ }
 {
     if wet {
         moves::write_cancels(out, states, xs, ys);
@@ -61,8 +62,8 @@ fn cancel(
     xs: &mut [i32; 256],
     ys: &mut [i32; 256],
 ) -> Run
-    requires { ⌜ (framesOf run < 255) × (run .records ≤ 4294967296) ⌝ }
-    ensures { λ r. ⌜ Cancels wet run r (tableOf (now (states .entry)) (now (xs .entry)) (now (ys .entry))) (tableOf (now (states .exit)) (now (xs .exit)) (now (ys .exit))) (now (out .entry)) (now (out .exit)) ⌝ }
+    requires { ⌜ (framesPassed run < 255) × (run .records ≤ 4294967296) ⌝ }
+    ensures { λ r. ⌜ Cancels wet run r (tableFrom (now (states .entry)) (now (xs .entry)) (now (ys .entry))) (tableFrom (now (states .exit)) (now (xs .exit)) (now (ys .exit))) (now (out .entry)) (now (out .exit)) ⌝ }
 {
     write_cancelled(out, wet, states, xs, ys);
     moves::rest_all(states, xs, ys);
@@ -78,7 +79,7 @@ fn cancel(
 
 // Any other frame while ignoring: nothing happens.
 fn ignore(run: Run) -> Run
-    requires { ⌜ framesOf run < 255 ⌝ }
+    requires { ⌜ framesPassed run < 255 ⌝ }
     ensures { λ r. ⌜ r ≡ ignoredRun run ⌝ }
 {
     Run {
@@ -111,7 +112,7 @@ fn ruling_on(
     xs: &[i32; 256],
     ys: &[i32; 256],
 ) -> Ruling
-    ensures { λ r. ⌜ Decides (machineOf run (tableOf (now (states .entry)) (now (xs .entry)) (now (ys .entry)))) most (run .active) (contactsOf n (now (rest .entry))) r ⌝ }
+    ensures { λ r. ⌜ Decides (touchRules most) (machineIn run (tableFrom (now (states .entry)) (now (xs .entry)) (now (ys .entry)))) (run .active) (contactsOf n (now (rest .entry))) r ⌝ }
 {
     contacts::verdict_of(run.running, rest, n, states, xs, ys, most, run.active)
 }
@@ -128,8 +129,8 @@ pub(crate) fn step(
     xs: &mut [i32; 256],
     ys: &mut [i32; 256],
 ) -> Stepped
-    requires { ⌜ (framesOf run < 255) × (run .records ≤ 4294967296) ⌝ }
-    ensures { λ r. ⌜ Steps head (now (rest .entry)) wet most run r (tableOf (now (states .entry)) (now (xs .entry)) (now (ys .entry))) (tableOf (now (states .exit)) (now (xs .exit)) (now (ys .exit))) (now (out .entry)) (now (out .exit)) ⌝ }
+    requires { ⌜ (framesPassed run < 255) × (run .records ≤ 4294967296) ⌝ }
+    ensures { λ r. ⌜ Steps head (now (rest .entry)) wet (touchRules most) run r (tableFrom (now (states .entry)) (now (xs .entry)) (now (ys .entry))) (tableFrom (now (states .exit)) (now (xs .exit)) (now (ys .exit))) (now (out .entry)) (now (out .exit)) ⌝ }
 {
     let n = head.count as u16;
     let ruling = ruling_on(run, rest, n, most, states, xs, ys);

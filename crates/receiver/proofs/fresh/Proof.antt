@@ -1,7 +1,7 @@
 -- `receiver::fresh` meets its contract.
 -- Assumes nothing.
 use mathlib.Core.Path.{refl}
-use Rattle.contacts.specs.Table.{resting}
+use Rattle.machine.specs.Table.{resting}
 use Rattle.receiver.specs.Receive.{fresh}
 use Rattle.receiver.proofs.fresh.Statement.{statement}
 use Rattle.receiver.proofs.fresh.Tie as tie

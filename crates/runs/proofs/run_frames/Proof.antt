@@ -12,8 +12,9 @@ use Rattle.formats.proofs.Steps.{tail}
 use Rattle.house.specs.declared.Contact.{Contact}
 use Rattle.framing.specs.Frame.{Frame}
 use Rattle.touch.proofs.Passes.{frameBy}
-use Rattle.contacts.specs.Ruling.{tableOf, rulesOf, Counted}
-use Rattle.runs.specs.Runs.{framesOf, mostRecords}
+use Rattle.contacts.specs.Touch.{touchRules}
+use Rattle.contacts.specs.Ruling.{tableFrom, Counted}
+use Rattle.runs.specs.Runs.{framesPassed, mostRecords}
 use Rattle.runs.proofs.Running.{Underway, underway-first, underway-next, underway-last}
 use Rattle.runs.proofs.run_frames.Statement.{statement}
 use Rattle.runs.proofs.run_frames.Tie as tie
@@ -23,10 +24,10 @@ Inv-loop out₀ wet frames n untimed most running active states₀ xs₀ ys₀ r
     (at ≤ length frames)
     × (pos ≤ length out)
     × (length out ≡ length out₀)
-    × (framesOf run + left ≤ 255)
+    × (framesPassed run + left ≤ 255)
     × (run .records + 65536 * left ≤ mostRecords)
     × ((fs : List (Frame Contact)) (end : List ℕ) → readSeries frameBy false n frames ≡ got fs end → Counted active states₀
-    → Underway (rulesOf most) untimed wet frames (record { table = tableOf states₀ xs₀ ys₀; running = running }) fs end out₀ run (tableOf states xs ys) out pos at left)
+    → Underway (touchRules most) untimed wet frames (record { table = tableFrom states₀ xs₀ ys₀; running = running }) fs end out₀ run (tableFrom states xs ys) out pos at left)
 
 abbrev μ-loop : tie.MeasureT-loop
 μ-loop out₀ wet frames n untimed most running active states₀ xs₀ ys₀ run₀ pos₀ at₀ left₀ out states xs ys run pos at left = left
@@ -42,7 +43,7 @@ loop-holds c =
       refl,
       rw (c .start .ensures) (omega arith),
       rw (c .start .ensures) (omega arith),
-      λ fs end e k. underway-first (a .most) (a .untimed) (a .wet) _ fs end _ _ _ (a .n) (a .active) (a .running) e k (c .start .ensures),
+      λ fs end e k. underway-first (touchRules (a .most)) (a .untimed) (a .wet) _ fs end _ _ _ (a .n) (a .active) (a .running) e k (c .start .ensures),
     )
 
 sub-find-head : tie.Need-sub-find-head Inv-loop μ-loop
@@ -157,7 +158,7 @@ loop-again c =
       omega (arith, b .frames),
       omega (arith, b .small),
       λ fs end e k.
-          underway-next (a .most) (a .untimed) (a .wet) _ fs end _ _ _ _ _ _ _ _ _ _ (p .loop .inv .5 fs end e k) (i .loop-test .taken) _ (f .find-head .ensures) _ (d .timed .ensures) _ b _ (p .loop .inv .2) (c .before .pass .ensures) g,
+          underway-next (touchRules (a .most)) (a .untimed) (a .wet) _ fs end _ _ _ _ _ _ _ _ _ _ (p .loop .inv .5 fs end e k) (i .loop-test .taken) _ (f .find-head .ensures) _ (d .timed .ensures) _ b _ (p .loop .inv .2) (c .before .pass .ensures) g,
     )
 
 same-length : tie.Need-same-length Inv-loop μ-loop

@@ -9,8 +9,8 @@ use native.Mathlib.Numerals.{add-one}
 use native.Mathlib.Omega.{arith}
 use native.Mathlib.Nat.{zero-add}
 use lib.ListN.{take, drop, getD}
-use Rattle.contacts.specs.Table.{contacts, countActive, one, active}
-use Rattle.contacts.proofs.Table.{count-step}
+use Rattle.machine.specs.Table.{contacts, countActive, one, active}
+use Rattle.machine.proofs.Table.{count-step}
 use Rattle.contacts.proofs.counts.count_active.Statement.{statement}
 use Rattle.contacts.proofs.counts.count_active.Tie as tie
 

@@ -10,17 +10,18 @@ use lib.ListN.{length, drop}
 use Rattle.formats.proofs.Steps.{step, stop, Stepped}
 use Rattle.fields.specs.Integers.{strict}
 use Rattle.touch.specs.Touch.{contact}
-use Rattle.contacts.specs.Conforms.{every}
-use Rattle.contacts.specs.Machine.{isDown}
+use Rattle.machine.specs.Conforms.{every}
+use Rattle.machine.specs.Machine.{isDown}
+use Rattle.contacts.specs.Touch.{touchView}
 use Rattle.contacts.specs.Ruling.{contactsOf, ofRead}
-use Rattle.contacts.proofs.Conforms.{every-on, every-off}
+use Rattle.machine.proofs.Conforms.{every-on, every-off}
 use Rattle.contacts.proofs.Reading.{read-end, read-bad, read-on, read-off}
 use Rattle.contacts.proofs.rules.all_down.Statement.{statement}
 use Rattle.contacts.proofs.rules.all_down.Tie as tie
 
 abbrev Inv-loop : tie.InvT-loop
 Inv-loop rest n at₀ left₀ at left =
-    (at ≤ length rest) × (ofRead false (every isDown) (contactsOf left (drop at rest)) ≡ ofRead false (every isDown) (contactsOf n rest))
+    (at ≤ length rest) × (ofRead false (every (isDown touchView)) (contactsOf left (drop at rest)) ≡ ofRead false (every (isDown touchView)) (contactsOf n rest))
 
 abbrev μ-loop : tie.MeasureT-loop
 μ-loop rest n at₀ left₀ at left = left
@@ -61,7 +62,7 @@ returns c =
     let p = r .before .before .before in
     let a = p .before .before .args in
     let b = stop (contact strict) (a .rest .now) (p .loop .at) _ _ (rw (c .enum-told .given .1) at (r .read-contact .ensures)) in
-    sym (read-bad false (every isDown) (p .loop .left) _ _ (r .before .before .loop-test .taken) b) ∙ p .loop .inv .1
+    sym (read-bad false (every (isDown touchView)) (p .loop .left) _ _ (r .before .before .loop-test .taken) b) ∙ p .loop .inv .1
 
 add-at : tie.Need-add-at Inv-loop μ-loop
 add-at c = omega (arith, this (c .before .before) .ends)
@@ -78,8 +79,8 @@ loop-again c =
     let r = k .before .before .before in
     let p = r .before .before .before in
     let a = p .before .before .args in
-    let on = every-on isDown (k .before .got .given .0 .0) (eq-eqb _ _ (c .if1 .taken)) in
-    (this k .ends, sym (read-on false (every isDown) (every isDown) (p .loop .left) (p .loop .at) _ (a .rest .now) _ (r .before .before .loop-test .taken) (this k) on) ∙ p .loop .inv .1)
+    let on = every-on (isDown touchView) (k .before .got .given .0 .0) (eq-eqb _ _ (c .if1 .taken)) in
+    (this k .ends, sym (read-on false (every (isDown touchView)) (every (isDown touchView)) (p .loop .left) (p .loop .at) _ (a .rest .now) _ (r .before .before .loop-test .taken) (this k) on) ∙ p .loop .inv .1)
 
 returns-2 : tie.Need-returns-2 Inv-loop μ-loop
 returns-2 c =
@@ -87,15 +88,15 @@ returns-2 c =
     let r = k .before .before .before in
     let p = r .before .before .before in
     let a = p .before .before .args in
-    let off = every-off isDown (k .before .got .given .0 .0) (ne-eqb _ _ (c .if1 .left)) in
-    sym (read-off false (every isDown) (p .loop .left) (p .loop .at) _ (a .rest .now) _ (r .before .before .loop-test .taken) (this k) off) ∙ p .loop .inv .1
+    let off = every-off (isDown touchView) (k .before .got .given .0 .0) (ne-eqb _ _ (c .if1 .left)) in
+    sym (read-off false (every (isDown touchView)) (p .loop .left) (p .loop .at) _ (a .rest .now) _ (r .before .before .loop-test .taken) (this k) off) ∙ p .loop .inv .1
 
 returns-3 : tie.Need-returns-3 Inv-loop μ-loop
 unfolding every
 returns-3 c =
     let p = c .before in
     let a = p .before .before .args in
-    sym (read-end false (every isDown) (p .loop .left) _ (c .loop-test .left)) ∙ p .loop .inv .1
+    sym (read-end false (every (isDown touchView)) (p .loop .left) _ (c .loop-test .left)) ∙ p .loop .inv .1
 
 pub all-down-spec : {M : Type 1} → statement M
 all-down-spec =

@@ -3,7 +3,7 @@
 use borrow.Author.Needs.{needs}
 use mathlib.Core.Path.{_≡_, sym, _∙_}
 use mathlib.Core.Bool.{true, false}
-use Rattle.contacts.specs.Conforms.{lifts}
+use Rattle.machine.specs.Conforms.{lifts}
 use Rattle.contacts.proofs.rules.is_in_place.Statement.{statement}
 use Rattle.contacts.proofs.rules.is_in_place.Tie as tie
 

@@ -5,7 +5,7 @@ use mathlib.Core.Path.{ap}
 use mathlib.Core.Bool.{not}
 use lib.Dec.{eqb}
 use Rattle.states.specs.Table.{illegal}
-use Rattle.contacts.specs.Table.{stateAt}
+use Rattle.machine.specs.Table.{stateAt}
 use Rattle.contacts.proofs.rules.is_legal.Statement.{statement}
 use Rattle.contacts.proofs.rules.is_legal.Tie as tie
 

@@ -7,8 +7,8 @@ use mir.Syntax.{w32}
 use mir.Facts.{toZ-ofZ}
 use lib.IntN.{pos}
 use lib.ListN.{getD}
-use Rattle.contacts.specs.Table.{placeAt}
-use Rattle.contacts.specs.Conforms.{sameNumber}
+use Rattle.machine.specs.Table.{placeAt}
+use Rattle.machine.specs.Conforms.{sameNumber}
 use Rattle.contacts.proofs.rules.is_stored.Statement.{statement}
 use Rattle.contacts.proofs.rules.is_stored.Tie as tie
 

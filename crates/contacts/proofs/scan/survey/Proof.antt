@@ -11,7 +11,7 @@ use Rattle.formats.proofs.Steps.{step, stop, Stepped}
 use Rattle.fields.specs.Integers.{strict}
 use Rattle.house.specs.declared.Contact.{Contact}
 use Rattle.touch.specs.Touch.{contact}
-use Rattle.contacts.specs.Table.{active, one}
+use Rattle.machine.specs.Table.{active, one}
 use Rattle.contacts.specs.Ruling.{contactsOf, ofRead, unlawful, surveyed}
 use Rattle.contacts.specs.declared.Survey.{Survey}
 use Rattle.contacts.proofs.Reading.{read-same, read-end, read-bad, read-on, read-off}

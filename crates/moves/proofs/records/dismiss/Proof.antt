@@ -1,7 +1,7 @@
 -- `moves::records::dismiss` meets its contract: nothing happens, there is no room, or the record is written and the contact goes.
 -- Assumes nothing.
 use borrow.Author.Needs.{needs}
-use Rattle.contacts.specs.Table.{stateAt, placeAt}
+use Rattle.machine.specs.Table.{stateAt, placeAt}
 use Rattle.moves.proofs.Dismissal.{dismisses-nothing, dismisses-none, dismisses-record}
 use Rattle.moves.proofs.records.dismiss.Statement.{statement}
 use Rattle.moves.proofs.records.dismiss.Tie as tie

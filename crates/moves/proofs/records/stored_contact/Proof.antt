@@ -5,7 +5,7 @@ use lib.IntN.{pos}
 use lib.ListN.{getD}
 use mir.Syntax.{w32}
 use mir.Facts.{toZ-ofZ}
-use Rattle.contacts.specs.Table.{placeAt}
+use Rattle.machine.specs.Table.{placeAt}
 use Rattle.moves.proofs.records.stored_contact.Statement.{statement}
 use Rattle.moves.proofs.records.stored_contact.Tie as tie
 

@@ -1,7 +1,7 @@
 -- `moves::records::write_cancel` meets its contract: nothing where the contact is out of range, and its record where it is active.
 -- Assumes nothing.
 use borrow.Author.Needs.{needs}
-use Rattle.contacts.specs.Table.{stateAt, placeAt}
+use Rattle.machine.specs.Table.{stateAt, placeAt}
 use Rattle.moves.proofs.Cancelling.{cancels-nothing, cancels-record}
 use Rattle.moves.proofs.records.write_cancel.Statement.{statement}
 use Rattle.moves.proofs.records.write_cancel.Tie as tie

@@ -10,10 +10,12 @@ use borrow.Rule.Slice.PartMut.{midOf}
 use Rattle.slices.specs.Writing.{laid}
 use Rattle.slices.proofs.Laws.{writes-bytes, writes-none, Done, writes-done}
 use Rattle.slices.proofs.Tails.{laidAt, laid-none, Wrote, wrote}
-use Rattle.contacts.specs.Table.{contacts}
-use Rattle.contacts.specs.Machine.{cancelBytes, cancelsFrom, cancels}
-use Rattle.contacts.specs.Ruling.{tableOf}
-use Rattle.contacts.proofs.Machine.{cancels-step, cancels-end, cancels-from-length}
+use Rattle.house.proofs.Round.{length-contact}
+use Rattle.machine.specs.Table.{contacts}
+use Rattle.machine.specs.Machine.{cancelBytes, cancelsFrom, cancels}
+use Rattle.contacts.specs.Touch.{touchView}
+use Rattle.contacts.specs.Ruling.{tableFrom}
+use Rattle.machine.proofs.Machine.{cancels-step, cancels-end, cancels-from-length}
 use Rattle.moves.proofs.Cancelling.{cancels-long}
 use Rattle.moves.proofs.records.write_cancels.Statement.{statement}
 use Rattle.moves.proofs.records.write_cancels.Tie as tie
@@ -21,10 +23,10 @@ use Rattle.moves.proofs.records.write_cancels.Tie as tie
 abbrev Inv-loop : tie.InvT-loop
 Inv-loop out₀ states xs ys active at₀ id₀ out at id =
     (id ≤ contacts)
-    × (at + length (cancelsFrom (tableOf states xs ys) id (contacts - id)) ≡ length (cancels (tableOf states xs ys)))
-    × (length (cancels (tableOf states xs ys)) ≤ length out)
+    × (at + length (cancelsFrom touchView (tableFrom states xs ys) id (contacts - id)) ≡ length (cancels touchView (tableFrom states xs ys)))
+    × (length (cancels touchView (tableFrom states xs ys)) ≤ length out)
     × (length out ≡ length out₀)
-    × (laidAt out at (cancelsFrom (tableOf states xs ys) id (contacts - id)) ≡ laid out₀ (cancels (tableOf states xs ys)))
+    × (laidAt out at (cancelsFrom touchView (tableFrom states xs ys) id (contacts - id)) ≡ laid out₀ (cancels touchView (tableFrom states xs ys)))
 
 abbrev μ-loop : tie.MeasureT-loop
 μ-loop out₀ states xs ys active at₀ id₀ out at id = contacts - id
@@ -41,10 +43,10 @@ mul-if1 c = search needs
 -- how long they all are
 long : (c : tie.After-count-active Inv-loop μ-loop) →
     let a = c .before .before .args in
-    length (cancels (tableOf (a .states .now) (a .xs .now) (a .ys .now))) ≡ 21 * c .count-active .result
+    length (cancels touchView (tableFrom (a .states .now) (a .xs .now) (a .ys .now))) ≡ 21 * c .count-active .result
 long c =
     let a = c .before .before .args in
-    cancels-from-length (tableOf (a .states .now) (a .xs .now) (a .ys .now)) 0 contacts ∙ ap (λ (n : ℕ). 21 * n) (sym (c .count-active .ensures .same))
+    cancels-from-length touchView (tableFrom (a .states .now) (a .xs .now) (a .ys .now)) length-contact 0 contacts ∙ ap (λ (n : ℕ). 21 * n) (sym (c .count-active .ensures .same))
 
 returns : tie.Need-returns Inv-loop μ-loop
 returns c = writes-none _ _ _ _ (rw (long (c .before)) (c .if1 .taken)) refl refl
@@ -71,12 +73,12 @@ write-cancel-requires c κs = search needs
 this : (c : tie.After-write-cancel Inv-loop μ-loop) →
     let p = c .before .before .before in
     let a = p .before .before .before .before .args in
-    Done (cancelBytes (tableOf (a .states .now) (a .xs .now) (a .ys .now)) (p .loop .id)) (c .write-cancel .result)
+    Done (cancelBytes touchView (tableFrom (a .states .now) (a .xs .now) (a .ys .now)) (p .loop .id)) (c .write-cancel .result)
     (midOf (p .loop .at) (length (p .loop .out) - p .loop .at) (p .loop .out)) (c .write-cancel .last .0)
 this c =
     let p = c .before .before .before in
     let a = p .before .before .before .before .args in
-    let l = cancels-long (tableOf (a .states .now) (a .xs .now) (a .ys .now)) (p .loop .id) (omega arith) in
+    let l = cancels-long (tableFrom (a .states .now) (a .xs .now) (a .ys .now)) (p .loop .id) (omega arith) in
     writes-done _ _ _ _ (c .write-cancel .ensures) (simp (length-take, length-drop) (omega arith))
 
 -- and what is still to come
@@ -84,12 +86,12 @@ turn : (c : tie.After-write-cancel Inv-loop μ-loop) →
     let p = c .before .before .before in
     let a = p .before .before .before .before .args in
     Wrote (p .loop .out) (p .loop .at) (c .write-cancel .result .bytes) (c .write-cancel .last .0)
-    (cancelBytes (tableOf (a .states .now) (a .xs .now) (a .ys .now)) (p .loop .id))
-    (cancelsFrom (tableOf (a .states .now) (a .xs .now) (a .ys .now)) (p .loop .id + 1) (contacts - (p .loop .id + 1)))
+    (cancelBytes touchView (tableFrom (a .states .now) (a .xs .now) (a .ys .now)) (p .loop .id))
+    (cancelsFrom touchView (tableFrom (a .states .now) (a .xs .now) (a .ys .now)) (p .loop .id + 1) (contacts - (p .loop .id + 1)))
 turn c =
     let p = c .before .before .before in
     let a = p .before .before .before .before .args in
-    let l = cancels-long (tableOf (a .states .now) (a .xs .now) (a .ys .now)) (p .loop .id) (omega arith) in
+    let l = cancels-long (tableFrom (a .states .now) (a .xs .now) (a .ys .now)) (p .loop .id) (omega arith) in
     wrote _ _ _ _ _ _ (this c .output) (this c .count) (simp length-append (omega arith))
 
 add-at : tie.Need-add-at Inv-loop μ-loop
@@ -106,9 +108,9 @@ loop-again c =
     let w = c .before .before .before in
     let p = w .before .before .before in
     let a = p .before .before .before .before .args in
-    let t = tableOf (a .states .now) (a .xs .now) (a .ys .now) in
+    let t = tableFrom (a .states .now) (a .xs .now) (a .ys .now) in
     let l = cancels-long t (p .loop .id) (omega arith) in
-    let e = cancels-step t (p .loop .id) (omega arith) in
+    let e = cancels-step touchView t (p .loop .id) (omega arith) in
     (omega arith, omega (arith, this w .count), omega (arith, turn w .long), turn w .long ∙ p .loop .inv .3, turn w .same ∙ (rw e at (p .loop .inv .4)))
 
 same-length : tie.Need-same-length Inv-loop μ-loop
@@ -118,9 +120,9 @@ returns-2 : tie.Need-returns-2 Inv-loop μ-loop
 returns-2 c =
     let p = c .before in
     let a = p .before .before .before .before .args in
-    let t = tableOf (a .states .now) (a .xs .now) (a .ys .now) in
-    let e = cancels-end t (p .loop .id) (c .loop-test .left) in
-    let n : length (cancels t) ≡ p .loop .at = omega (arith, ap length e) in
+    let t = tableFrom (a .states .now) (a .xs .now) (a .ys .now) in
+    let e = cancels-end touchView t (p .loop .id) (c .loop-test .left) in
+    let n : length (cancels touchView t) ≡ p .loop .at = omega (arith, ap length e) in
     writes-bytes _ _ _ _ (omega arith) (rw n) (sym (laid-none (p .loop .out) (p .loop .at)) ∙ (rw e at (p .loop .inv .4)))
 
 pub write-cancels-spec : {M : Type 1} → statement M

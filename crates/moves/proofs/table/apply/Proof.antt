@@ -10,7 +10,7 @@ use Rattle.formats.specs.Answer.{skipped}
 use Rattle.formats.proofs.Steps.{step, stop, Stepped, series-end, series-got, series-bad}
 use Rattle.fields.specs.Integers.{strict}
 use Rattle.touch.specs.Touch.{contact}
-use Rattle.contacts.specs.Ruling.{contactsOf, tableOf, rulesOf}
+use Rattle.contacts.specs.Ruling.{contactsOf, tableFrom}
 use Rattle.moves.specs.Moves.{afterRead}
 use Rattle.moves.proofs.Moving.{read-end, read-bad, read-on, ends-got, ends-bad}
 use Rattle.moves.proofs.table.apply.Statement.{statement}
@@ -20,7 +20,7 @@ abbrev Inv-loop : tie.InvT-loop
 Inv-loop rest n states₀ xs₀ ys₀ at₀ left₀ states xs ys at left =
     (at ≤ length rest)
     × (skipped (contactsOf left (drop at rest)) ≡ skipped (contactsOf n rest))
-    × ((most : ℕ) → afterRead (rulesOf most) left (tableOf states xs ys) (drop at rest) ≡ afterRead (rulesOf most) n (tableOf states₀ xs₀ ys₀) rest)
+    × (afterRead left (tableFrom states xs ys) (drop at rest) ≡ afterRead n (tableFrom states₀ xs₀ ys₀) rest)
 
 abbrev μ-loop : tie.MeasureT-loop
 μ-loop rest n states₀ xs₀ ys₀ at₀ left₀ states xs ys at left = left
@@ -35,7 +35,7 @@ this c =
     step (contact strict) (p .before .before .args .rest .now) (p .loop .at) _ _ (p .loop .inv .0) (rw (c .before .got .given .1) at (r .read-contact .ensures))
 
 loop-holds : tie.Need-loop-holds Inv-loop μ-loop
-loop-holds c = (omega arith, refl, λ most. refl)
+loop-holds c = (omega arith, refl, refl)
 
 sub-read-contact : tie.Need-sub-read-contact Inv-loop μ-loop
 sub-read-contact c = search needs
@@ -63,7 +63,7 @@ returns c =
     let h = r .before .before .loop-test .taken in
     let a = p .before .before .args in
     record {
-      table = λ most. sym (read-bad (rulesOf most) _ (p .loop .left) _ _ h b) ∙ p .loop .inv .2 most;
+      table = sym (read-bad _ (p .loop .left) _ _ h b) ∙ p .loop .inv .2;
       passed = ends-bad (a .n) (a .rest .now) _ (sym (ap skipped (series-bad (λ b. contact strict .read) false (p .loop .left) _ _ h b)) ∙ p .loop .inv .1);
     }
 
@@ -86,9 +86,8 @@ loop-again c =
     let p = r .before .before .before in (
       this k .ends,
       sym (series-got (λ b. contact strict .read) false (p .loop .left) _ _ _ (r .before .before .loop-test .taken) (this k .reads)) ∙ p .loop .inv .1,
-      λ most.
-          read-on most _ _ (p .loop .left) (p .loop .at) _ (p .before .before .args .rest .now) _ (r .before .before .loop-test .taken) (this k) (c .move-contact .ensures)
-          ∙ p .loop .inv .2 most,
+      read-on _ _ (p .loop .left) (p .loop .at) _ (p .before .before .args .rest .now) _ (r .before .before .loop-test .taken) (this k) (c .move-contact .ensures)
+          ∙ p .loop .inv .2,
     )
 
 returns-2 : tie.Need-returns-2 Inv-loop μ-loop
@@ -96,7 +95,7 @@ returns-2 c =
     let p = c .before in
     let a = p .before .before .args in
     record {
-      table = λ most. sym (read-end (rulesOf most) _ (p .loop .left) _ (c .loop-test .left)) ∙ p .loop .inv .2 most;
+      table = sym (read-end _ (p .loop .left) _ (c .loop-test .left)) ∙ p .loop .inv .2;
       passed = ends-got (a .n) (a .rest .now) (p .loop .at) (sym (ap skipped (series-end (λ b. contact strict .read) false (p .loop .left) _ (c .loop-test .left))) ∙ p .loop .inv .1) (p .loop .inv .0);
     }
 

@@ -1,7 +1,7 @@
 -- `moves::table::move_contact` meets its contract: out of range the origin is stored, and otherwise the contact's own position.
 -- Assumes nothing.
 use borrow.Author.Needs.{needs}
-use Rattle.contacts.specs.Table.{stateAt}
+use Rattle.machine.specs.Table.{stateAt}
 use Rattle.moves.proofs.Moving.{moves-out, moves-in}
 use Rattle.moves.proofs.table.move_contact.Statement.{statement}
 use Rattle.moves.proofs.table.move_contact.Tie as tie

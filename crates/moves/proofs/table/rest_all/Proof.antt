@@ -1,7 +1,7 @@
 -- `moves::table::rest_all` meets its contract.
 -- Assumes nothing.
 use mathlib.Core.Path.{refl}
-use Rattle.contacts.specs.Table.{resting}
+use Rattle.machine.specs.Table.{resting}
 use Rattle.moves.proofs.table.rest_all.Statement.{statement}
 use Rattle.moves.proofs.table.rest_all.Tie as tie
 

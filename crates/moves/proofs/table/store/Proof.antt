@@ -3,7 +3,7 @@
 use borrow.Author.Needs.{needs}
 use mir.Syntax.{w32}
 use mir.Facts.{toZ-ofZ}
-use Rattle.contacts.specs.Table.{withContact}
+use Rattle.machine.specs.Table.{withContact}
 use Rattle.moves.proofs.table.store.Statement.{statement}
 use Rattle.moves.proofs.table.store.Tie as tie
 

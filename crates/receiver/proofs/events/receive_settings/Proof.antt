@@ -2,7 +2,7 @@
 -- Assumes nothing.
 use borrow.Author.Needs.{needs}
 use mathlib.Core.Path.{ap}
-use Rattle.receiver.specs.Events.{held}
+use Rattle.receiver.specs.Events.{ofParts}
 use Rattle.receiver.specs.declared.Marks.{Marks}
 use Rattle.receiver.proofs.Answering.{turned-same}
 use Rattle.receiver.proofs.Bodies.{settings-refused, settings-taken}
@@ -35,7 +35,7 @@ returns c t d =
 returns-2 : tie.Need-returns-2
 returns-2 c t d =
     let e = c .before .before .before in
-    settings-taken _ _ _ (e .before .before .read-ready-body .ensures) _ d _ _ (e .settings .given .1) (ap (λ (m : Marks). held m t) (c .before .settle .ensures)) (turned-same _ _ t (c .quiet .ensures))
+    settings-taken _ _ _ (e .before .before .read-ready-body .ensures) _ d _ _ (e .settings .given .1) (ap (λ (m : Marks). ofParts m t) (c .before .settle .ensures)) (turned-same _ _ t (c .quiet .ensures))
 
 pub receive-settings-spec : {M : Type 1} → statement M
 receive-settings-spec =

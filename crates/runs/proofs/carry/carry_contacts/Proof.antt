@@ -22,7 +22,7 @@ use Rattle.framing.specs.Frame.{contactsBytes}
 use Rattle.touch.specs.Touch.{contact, touchRecord}
 use Rattle.frame_records.proofs.Laws.{contacts-none, contacts-cons, length-read}
 use Rattle.frame_records.proofs.Passes.{Ahead, ahead-first, ahead-bad, ahead-next, ahead-done}
-use Rattle.contacts.specs.Ruling.{contactsOf, tableOf, rulesOf}
+use Rattle.contacts.specs.Ruling.{contactsOf, tableFrom}
 use Rattle.moves.specs.Moves.{afterRead}
 use Rattle.moves.proofs.Moving.{read-end, read-bad, read-on, ends-got, ends-bad}
 use Rattle.runs.proofs.carry.carry_contacts.Statement.{statement}
@@ -34,7 +34,7 @@ Inv-loop out₀ rest n states₀ xs₀ ys₀ pos₀ at₀ left₀ out states xs 
     × (pos + 21 * left ≤ length out)
     × (length out ≡ length out₀)
     × (skipped (contactsOf left (drop at rest)) ≡ skipped (contactsOf n rest))
-    × ((most : ℕ) → afterRead (rulesOf most) left (tableOf states xs ys) (drop at rest) ≡ afterRead (rulesOf most) n (tableOf states₀ xs₀ ys₀) rest)
+    × (afterRead left (tableFrom states xs ys) (drop at rest) ≡ afterRead n (tableFrom states₀ xs₀ ys₀) rest)
     × ((cs : List Contact) (t : List ℕ) → contactsOf n rest ≡ got cs t → Ahead (λ b. contact strict) (contactsBytes touchRecord) rest out₀ cs t out pos at left)
 
 abbrev μ-loop : tie.MeasureT-loop
@@ -68,7 +68,7 @@ loop-holds c = (
   omega arith,
   refl,
   refl,
-  λ most. refl,
+  refl,
   λ cs t e.
       let n = length-read _ _ cs t e in
       ahead-first (λ b. contact strict) (contactsBytes touchRecord) _ _ cs t _ e (omega arith),
@@ -104,7 +104,7 @@ returns c =
     let b = stop (contact strict) (a .rest .now) (p .loop .at) _ _ (rw (c .enum-told .given .1) at (r .read-contact .ensures)) in
     record {
       table = record {
-        table = λ most. sym (read-bad (rulesOf most) _ (p .loop .left) _ _ h b) ∙ p .loop .inv .4 most;
+        table = sym (read-bad _ (p .loop .left) _ _ h b) ∙ p .loop .inv .4;
         passed = ends-bad (a .n) (a .rest .now) _ (sym (ap skipped (series-bad (λ b. contact strict .read) false (p .loop .left) _ _ h b)) ∙ p .loop .inv .3);
       };
       output = λ cs t e. ahead-bad (λ b. contact strict) (contactsBytes touchRecord) _ _ cs t _ _ _ _ (p .loop .inv .5 cs t e) _ h b;
@@ -155,7 +155,7 @@ loop-again c =
       omega arith,
       v .long ∙ p .loop .inv .2,
       sym (series-got (λ b. contact strict .read) false (p .loop .left) _ _ _ h (one g .reads)) ∙ p .loop .inv .3,
-      λ most. read-on most _ _ (p .loop .left) (p .loop .at) _ (a .rest .now) _ h (one g) (c .move-contact .ensures) ∙ p .loop .inv .4 most,
+      read-on _ _ (p .loop .left) (p .loop .at) _ (a .rest .now) _ h (one g) (c .move-contact .ensures) ∙ p .loop .inv .4,
       λ cs t e. ahead-next (λ b. contact strict) (contactsBytes touchRecord) _ _ cs t _ _ _ _ (p .loop .inv .5 cs t e) x _ _ (contactBytes touched x) _ h (one g .reads) (contacts-cons x) (d .output) (sym n),
     )
 
@@ -169,7 +169,7 @@ returns-2 c =
     let h = c .loop-test .left in
     record {
       table = record {
-        table = λ most. sym (read-end (rulesOf most) _ (p .loop .left) _ h) ∙ p .loop .inv .4 most;
+        table = sym (read-end _ (p .loop .left) _ h) ∙ p .loop .inv .4;
         passed = ends-got (a .n) (a .rest .now) (p .loop .at) (sym (ap skipped (series-end (λ b. contact strict .read) false (p .loop .left) _ h)) ∙ p .loop .inv .3) (p .loop .inv .0);
       };
       output = λ cs t e. ahead-done (λ b. contact strict) (contactsBytes touchRecord) _ _ cs t _ _ _ _ (p .loop .inv .5 cs t e) h contacts-none;

@@ -91,7 +91,7 @@ struct kangirlo_written {
 struct kangirlo_record {
 	uint8_t refusal;        /* 14: fewer than 21 bytes, or not well formed; every other field is 0 */
 	uint8_t kind;
-	uint8_t count;          /* of a head: how many contacts follow */
+	uint16_t count;         /* of a head: how many contacts follow */
 	uint8_t flags;
 	uint8_t present;        /* which optional fields there are: 1 the sides, 2 orientation, 4 pressure */
 	uint8_t id;
@@ -151,5 +151,7 @@ KANGIRLO_ASSERT(sizeof(struct kangirlo_answer) == 16 && KANGIRLO_ALIGN(struct ka
 KANGIRLO_ASSERT(sizeof(struct kangirlo_plain_answer) == 16 && KANGIRLO_ALIGN(struct kangirlo_plain_answer) == 8);
 KANGIRLO_ASSERT(sizeof(struct kangirlo_written) == 16 && KANGIRLO_ALIGN(struct kangirlo_written) == 8);
 KANGIRLO_ASSERT(sizeof(struct kangirlo_record) == 40 && KANGIRLO_ALIGN(struct kangirlo_record) == 8);
+KANGIRLO_ASSERT(offsetof(struct kangirlo_record, count) == 2 && offsetof(struct kangirlo_record, flags) == 4);
+KANGIRLO_ASSERT(offsetof(struct kangirlo_record, orientation) == 8 && offsetof(struct kangirlo_record, x) == 20);
 
 #endif

@@ -35,7 +35,7 @@ pub const PRESSURE_MOST: u16 = 65000;
 
 // A frame's head: how many contacts follow, and the time since the frame before.
 pub struct Head {
-    pub count: u8,
+    pub count: u16,
     pub offset: Microseconds,
 }
 

@@ -27,7 +27,7 @@ pub(crate) fn read_head(whole: &[u8]) -> Head
     requires { ⌜ length (now whole) ≡ 21 ⌝ }
     ensures { λ r. ⌜ r ≡ headOf (now (whole .entry)) ⌝ }
 {
-    let count = get(whole, 2, 6) as u8;
+    let count = get(whole, 2, 6) as u16;
     let offset = get(whole, 8, 61);
     Head {
         count: count,

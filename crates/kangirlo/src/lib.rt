@@ -22,7 +22,7 @@ ghost use Rattle.kangirlo.specs.Flat.{flat, flattened, bare, flatHead, f
 pub struct FlatRecord {
     pub refusal: u8,
     pub kind: u8,
-    pub count: u8,
+    pub count: u16,
     pub flags: u8,
     pub present: u8,
     pub id: u8,
@@ -124,7 +124,7 @@ pub extern "C" fn kangirlo_write_dismiss(output: &mut [u8], id: u8) -> Written
 }
 
 // A record with no contact in it: a refusal's or a head's.
-fn bare_record(refusal: u8, count: u8, offset: Microseconds) -> FlatRecord
+fn bare_record(refusal: u8, count: u16, offset: Microseconds) -> FlatRecord
     ensures { λ r. ⌜ r ≡ bare refusal count offset ⌝ }
 {
     FlatRecord {

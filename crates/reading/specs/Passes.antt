@@ -35,7 +35,8 @@ Judges l (CheckedBody.Refused e) = plainly l ≡ bad e
 -- r is how many records n frames have, if they can be read
 pub record Counts (n : ℕ) (l : List ℕ) (r : ℕ) : Type 0 where
   pub same : (fs : List (Frame Contact)) (t : List ℕ) → frames n .read l ≡ got fs t → r ≡ recordsIn fs
-  pub most : r ≤ 256 * n
+  -- whatever is read: a head, and fewer than 65536 contacts
+  pub most : r ≤ 65536 * n
 
 -- n frames can be read, and there is room for their records
 pub record Roomy (n : ℕ) (l : List ℕ) (room : ℕ) : Type 0 where

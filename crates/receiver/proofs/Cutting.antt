@@ -21,6 +21,7 @@ use Rattle.messages.specs.declared.Ready.{Ready}
 use Rattle.messages.proofs.Laws.{one-of-first, headed-got, headed-good, message-back, message-got}
 use Rattle.house.specs.declared.Contact.{Contact}
 use Rattle.framing.specs.Frame.{Frame}
+use Rattle.touch.specs.Limits.{mostFrames}
 use Rattle.touch.specs.Touch.{Touch, offset, frameHead, frame, touchHead, body}
 use Rattle.touch.specs.Touch as format
 use Rattle.touch.proofs.Laws.{strict-touch-law}
@@ -71,7 +72,7 @@ module _ {A : Type 0} (w : Bool → A → List ℕ) (same : (b : Bool) (a : A) �
   tail-shorter (a ∷ s) b t = omega (arith, length-append (w b a) (writeSeries w false (s ++ t)), tail-shorter s false t)
 
 -- a count of frames is of one byte
-count-length : (n : ℕ) → n ≤ 64 → length (writing 1 0 0 n) ≡ 1
+count-length : (n : ℕ) → n ≤ mostFrames → length (writing 1 0 0 n) ≡ 1
 unfolding formed fewest digits
 count-length n h = rw (lt-ltb n 128 (omega arith))
 
@@ -85,16 +86,16 @@ module _ (time : Milliseconds) (fs gs : List (Frame Contact)) (b : Bool) where
   part-holds : format.touch strict b .Holds all → format.touch strict false .Holds part
   unfolding format.touch touchHead
   part-holds h =
-      let n = leb-true (length (fs ++ gs)) 64 (h .0 .1 .0 .1) in
-      let k : length gs ≤ 64 = omega (arith, length-append fs gs) in
+      let n = leb-true (length (fs ++ gs)) mostFrames (h .0 .1 .0 .1) in
+      let k : length gs ≤ mostFrames = omega (arith, length-append fs gs) in
       let hs = each-tail (λ b. frame strict b .Holds) frame-free fs gs (each-free (λ b. frame strict b .Holds) frame-free b (length (fs ++ gs)) (fs ++ gs) (h .1 .0)) in
-      ((h .0 .0, ((omega arith, le-leb (length gs) 64 k), refl)), (hs, refl))
+      ((h .0 .0, ((omega arith, le-leb (length gs) mostFrames k), refl)), (hs, refl))
 
   part-shorter : format.touch strict b .Holds all → length (format.touch strict false .write part) ≤ length (format.touch strict b .write all)
   unfolding format.touch touchHead
   part-shorter h =
-      let n = leb-true (length (fs ++ gs)) 64 (h .0 .1 .0 .1) in
-      let k : length gs ≤ 64 = omega (arith, length-append fs gs) in
+      let n = leb-true (length (fs ++ gs)) mostFrames (h .0 .1 .0 .1) in
+      let k : length gs ≤ mostFrames = omega (arith, length-append fs gs) in
       let ws = tail-shorter (λ b. frame strict b .write) frame-write fs b gs in
       simp (length-append, append-nil, count-length (length gs) k, count-length (length fs + length gs) (omega (arith, length-append fs gs))) (omega arith)
 

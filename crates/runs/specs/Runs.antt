@@ -78,7 +78,7 @@ cancelledRun r =
 
 pub record Injects (head : Head) (active : ℕ) (l : List ℕ) (wet : Bool) (run : Run) (r : Stepped) (t u : Table) (before after : List ℕ) : Type 0 where
   pub answer : r .run ≡ injectedRun run (head .count) active
-  pub small : head .count < 256
+  pub small : head .count < 65536
   pub carried : CarriesFrame wet head l (r .end) t u before after
 
 pub record Cancels (wet : Bool) (run r : Run) (t u : Table) (before after : List ℕ) : Type 0 where
@@ -119,7 +119,7 @@ pub record Ran (rules : Rules Contact) (fs : List (Frame Contact)) (wet running 
   pub records : recordBytes * r .records ≡ length (runBytes touchView rules (record { table = t; running = running }) fs)
   pub output : Lays wet (runBytes touchView rules (record { table = t; running = running }) fs) before after
 
--- no more records than these, whatever is read: of 255 frames at most, each gives fewer than 65536
+-- no more records than these, whatever is read: of 255 frames at most, each gives at most 65536
 abbrev pub mostRecords : ℕ
 mostRecords = 16711680
 

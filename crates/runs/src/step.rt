@@ -132,8 +132,7 @@ pub(crate) fn step(
     requires { ⌜ (framesPassed run < 255) × (run .records ≤ 4294967296) ⌝ }
     ensures { λ r. ⌜ Steps head (now (rest .entry)) wet (touchRules most) run r (tableFrom (now (states .entry)) (now (xs .entry)) (now (ys .entry))) (tableFrom (now (states .exit)) (now (xs .exit)) (now (ys .exit))) (now (out .entry)) (now (out .exit)) ⌝ }
 {
-    let n = head.count as u16;
-    let ruling = ruling_on(run, rest, n, most, states, xs, ys);
+    let ruling = ruling_on(run, rest, head.count, most, states, xs, ys);
     match ruling {
         Ruling::Injected(active) => inject(out, wet, rest, head, active, run, states, xs, ys),
         Ruling::Ignored => Stepped {

@@ -24,6 +24,7 @@ use Rattle.house.specs.declared.Sides.{Sides}
 use Rattle.house.specs.declared.Contact.{Contact}
 use Rattle.house.proofs.WellFormed.{in-range}
 use Rattle.framing.specs.Frame.{Frame, headOf}
+use Rattle.touch.specs.Limits.{mostContacts}
 use Rattle.touch.specs.Touch.{point, sides, optional, contact, offset, frameHead, frame}
 use Rattle.touch.proofs.Laws.{contact-law, frame-law}
 
@@ -141,7 +142,7 @@ offset-holds false o h = h
 pub frame-holds : (judged : Bool) (f : Frame Contact) → frame strict judged .Holds f → HeadFits (headOf f)
 unfolding frame frameHead
 frame-holds judged f h =
-    let n = leb-true (length (f .contacts)) 63 (h .0 .0 .1) in
+    let n = leb-true (length (f .contacts)) mostContacts (h .0 .0 .1) in
     record { count = omega arith; offset = offset-holds judged (f .offset .0) (h .0 .1 .0) }
 
 pub frame-fits : (judged : Bool) (l : List ℕ) (f : Frame Contact) (t : List ℕ) → Bytes l → frame strict judged .read l ≡ got f t → HeadFits (headOf f)

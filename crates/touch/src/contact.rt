@@ -6,6 +6,8 @@ use crate::ReadPoint;
 use crate::ReadSides;
 use crate::parts;
 use house::Contact;
+use house::ORIENTATION_MOST;
+use house::PRESSURE_MOST;
 use integers::ReadU2;
 use integers::ReadU4;
 ghost use mathlib.Core.Path.{_≡_};
@@ -32,12 +34,12 @@ fn read_optional(rest: &[u8], present: u16) -> ReadOptional
     let ReadSides::Value(sides, at_turn) = got_sides else {
         return ReadOptional::Refused(got_sides.refusal());
     };
-    let got_turn = parts::read_up_to(&rest[at_turn..], has_bit(present, 2), 359);
+    let got_turn = parts::read_up_to(&rest[at_turn..], has_bit(present, 2), ORIENTATION_MOST);
     let ReadU4::Value(orientation, n_turn) = got_turn else {
         return ReadOptional::Refused(got_turn.refusal());
     };
     let at_press = at_turn + n_turn;
-    let got_press = parts::read_up_to(&rest[at_press..], has_bit(present, 4), 65000);
+    let got_press = parts::read_up_to(&rest[at_press..], has_bit(present, 4), PRESSURE_MOST);
     let ReadU4::Value(pressure, n_press) = got_press else {
         return ReadOptional::Refused(got_press.refusal());
     };

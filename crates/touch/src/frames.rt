@@ -1,6 +1,8 @@
 // Frames and the whole body: where they end, or the first fault.
+use crate::CONTACTS_MOST;
 use crate::CheckedBody;
 use crate::End;
+use crate::FRAMES_MOST;
 use crate::ReadContact;
 use crate::ReadHead;
 use crate::ReadTouchHead;
@@ -57,7 +59,7 @@ fn read_offset(rest: &[u8], judged: bool) -> ReadU8
 pub fn read_frame_head(rest: &[u8], judged: bool) -> ReadHead
     ensures { λ r. ⌜ Answers (frameHead strict judged) (now (rest .entry)) (headGot r (now (rest .entry))) (headLength r) ⌝ }
 {
-    let got_count = read_count(rest, 63);
+    let got_count = read_count(rest, CONTACTS_MOST);
     let ReadU2::Value(count, at_offset) = got_count else {
         return ReadHead::Refused(got_count.refusal());
     };
@@ -66,7 +68,7 @@ pub fn read_frame_head(rest: &[u8], judged: bool) -> ReadHead
         return ReadHead::Refused(got_offset.refusal());
     };
     let found = Head {
-        count: count as u8,
+        count: count,
         offset: Microseconds(offset),
     };
     ReadHead::Value(found, at_offset + n)
@@ -131,7 +133,7 @@ pub fn read_touch_head(rest: &[u8]) -> ReadTouchHead
     let ReadU4::Value(time, at_count) = got_time else {
         return ReadTouchHead::Refused(got_time.refusal());
     };
-    let got_count = read_count(&rest[at_count..], 64);
+    let got_count = read_count(&rest[at_count..], FRAMES_MOST);
     let ReadU2::Value(count, n) = got_count else {
         return ReadTouchHead::Refused(got_count.refusal());
     };

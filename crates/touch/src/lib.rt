@@ -16,6 +16,11 @@ use paper::Milliseconds;
 ghost use mathlib.Core.Path.{_≡_};
 ghost use Rattle.touch.specs.Answer.{pointRefusal, sidesRefusal, optionalRefusal, contactRefusal, headRefusal, touchHeadRefusal, endRefusal, checkedRefusal};
 
+// The most frames of a message, and the most contacts of a frame.
+pub const FRAMES_MOST: u16 = 64;
+
+pub const CONTACTS_MOST: u16 = 63;
+
 // The optional fields of a contact; those that are absent are 0.
 pub(crate) struct Optional {
     pub sides: Sides,

@@ -47,7 +47,7 @@ pub(crate) fn read_flags(rest: &[u8]) -> ReadU4
 }
 
 // A number that is there or 0, at most so great: orientation or pressure.
-pub(crate) fn read_up_to(rest: &[u8], there: bool, most: u32) -> ReadU4
+pub(crate) fn read_up_to(rest: &[u8], there: bool, most: u16) -> ReadU4
     ensures { λ r. ⌜ Answers (when there (such (strict .u4) (λ v. leb v most) badRange) 0) (now (rest .entry)) (u4Got r (now (rest .entry))) (lengthOf (u4Of r)) ⌝ }
 {
     if there {
@@ -55,7 +55,8 @@ pub(crate) fn read_up_to(rest: &[u8], there: bool, most: u32) -> ReadU4
         let ReadU4::Value(v, _) = got else {
             return got;
         };
-        if most < v {
+        let limit = most as u32;
+        if limit < v {
             return ReadU4::Refused(paper::BAD_RANGE);
         }
         return got;

@@ -1,4 +1,9 @@
 // Numbers of a vector: most significant byte first.
+// A byte in 16 bits.
+pub(crate) fn wide(byte: u8) -> u16 {
+    byte as u16
+}
+
 // A byte as a count.
 pub(crate) fn count(byte: u8) -> usize {
     byte as usize

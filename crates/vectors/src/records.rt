@@ -23,7 +23,7 @@ pub(crate) fn run_head(body: &[u8]) {
     let high = parse::word(body[1], body[2], body[3], body[4]);
     let low = parse::word(body[5], body[6], body[7], body[8]);
     let head = Head {
-        count: body[0],
+        count: parse::wide(body[0]),
         offset: Microseconds(parse::joined(high, low)),
     };
     let mut space = [0xEEu8; 32];

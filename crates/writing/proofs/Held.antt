@@ -19,6 +19,7 @@ use Rattle.house.specs.declared.Head.{Head}
 use Rattle.house.specs.declared.Contact.{Contact}
 use Rattle.house.proofs.WellFormed.{in-range}
 use Rattle.framing.specs.Frame.{Frame, headOf}
+use Rattle.touch.specs.Limits.{mostContacts}
 use Rattle.touch.specs.Touch.{point, sides, orientation, pressure, optional, contact, frameHead, frame}
 use Rattle.touch.proofs.Ranges.{contact-fits, contact-well, frame-holds}
 use Rattle.frame_records.specs.Records.{contactRecord, frameRecords}
@@ -87,7 +88,7 @@ pub head-writes : (h : Head) → HeadFits h → frameHead strict false .Holds h
 unfolding frameHead
 head-writes h f =
     let n = f .count in
-    ((omega (arith, n), le-leb (h .count) 63 (omega (arith, n))), (f .offset, refl))
+    ((omega (arith, n), le-leb (h .count) mostContacts (omega (arith, n))), (f .offset, refl))
 
 pub frame-writes : (f : Frame Contact) → frameRecords .Holds f → frame strict false .Holds f
 unfolding frame frameRecords

@@ -24,7 +24,7 @@ fn kind_of(found: Record) -> u8
 }
 
 // How many contacts follow a record.
-fn contacts_after(found: Record) -> u8
+fn contacts_after(found: Record) -> u16
     ensures { λ r. ⌜ r ≡ contactsAfter found ⌝ }
 {
     match found {

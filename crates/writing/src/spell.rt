@@ -17,7 +17,7 @@ fn write_frame_head(out: &mut [u8], head: Head) -> Written
     requires { ⌜ frameHead strict false .Holds head ⌝ }
     ensures { λ r. ⌜ Fills (frameHead strict false .write head) r (now (out .entry)) (now (out .exit)) ⌝ }
 {
-    let count = integers::write_u2(out, head.count as u16);
+    let count = integers::write_u2(out, head.count);
     let at_offset = count.bytes;
     join(
         count,

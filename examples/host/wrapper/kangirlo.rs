@@ -185,7 +185,7 @@ pub struct Contact {
 
 #[derive(Clone, Copy, Debug, PartialEq, Eq)]
 pub enum Record {
-    Head { count: u8, offset: Microseconds },
+    Head { count: u16, offset: Microseconds },
     Contact(Contact),
     Cancel(Contact),
     Dismissal(Contact),
@@ -319,7 +319,7 @@ mod c {
     pub struct Record {
         pub refusal: u8,
         pub kind: u8,
-        pub count: u8,
+        pub count: u16,
         pub flags: u8,
         pub present: u8,
         pub id: u8,

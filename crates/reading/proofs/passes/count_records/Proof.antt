@@ -1,5 +1,5 @@
 -- `reading::passes::count_records` meets its contract. The loop keeps: what is counted and what is to come are the whole; and a bound, since no
--- frame has more than 255 contacts.
+-- frame has more than 65,535 contacts.
 -- Assumes nothing.
 use borrow.Author.Needs.{needs}
 use Prim.Native.Nat.{ℕ, _+_, _*_, _≤_}
@@ -19,7 +19,7 @@ use Rattle.reading.proofs.passes.count_records.Tie as tie
 abbrev Inv-loop : tie.InvT-loop
 Inv-loop frames n records₀ at₀ left₀ records at left =
     (at ≤ length frames)
-    × (records + 256 * left ≤ 256 * n)
+    × (records + 65536 * left ≤ 65536 * n)
     × ((fs : List (Frame Contact)) (t : List ℕ) → passes.frames n .read frames ≡ got fs t → Counting frames fs t records at left)
 
 abbrev μ-loop : tie.MeasureT-loop

@@ -6,9 +6,6 @@ use Rattle.runs.proofs.Stepping.{steps-injected, steps-ignored, steps-c
 use Rattle.runs.proofs.step.step.Statement.{statement}
 use Rattle.runs.proofs.step.step.Tie as tie
 
-cast-n : tie.Need-cast-n
-cast-n c = search needs
-
 ruling-on-requires : tie.Need-ruling-on-requires
 ruling-on-requires c κs = search needs
 
@@ -72,7 +69,6 @@ pub step-spec : {M : Type 1} → statement M
 step-spec =
     tie.close
     (tie.spec
-    cast-n
     ruling-on-requires
     enum-known-ruling
     inject-requires

@@ -6,15 +6,11 @@ use mathlib.Core.Path.{sym}
 use mathlib.Core.List.{List}
 use native.Mathlib.Omega.{arith}
 use denote.Ref.{now}
-use borrow.Author.Tests.{leb-true}
 use mathlib.Core.Bool.{Bool}
-use lib.Dec.{leb}
-use Rattle.paper.specs.Refusals.{badCount}
 use Rattle.formats.proofs.Steps.{step, stop, Stepped}
 use Rattle.fields.specs.Integers.{strict}
-use Rattle.touch.specs.Limits.{mostContacts}
 use Rattle.touch.specs.Touch.{contactCount, offset, frameHead}
-use Rattle.touch.proofs.Reading.{first, passed}
+use Rattle.touch.proofs.Reading.{first}
 use Rattle.touch.proofs.frames.read_frame_head.Statement.{statement}
 use Rattle.touch.proofs.frames.read_frame_head.Tie as tie
 
@@ -90,11 +86,6 @@ returns-2 c =
     let b = stop (offset strict (judged k)) (lent k) (at-offset k) _ _ (rw t at (r .read-offset .ensures)) in
     record { same = rw (c .refusal2 .ensures, t, count-read k .reads, b); inside = omega arith }
 
-cast-t16 : tie.Need-cast-t16
-cast-t16 c =
-    let n = passed (strict .u2) (λ n. leb n mostContacts) badCount (lent (up c)) 0 _ _ (count-read (up c)) in
-    omega (arith, leb-true)
-
 add-t12 : tie.Need-add-t12
 add-t12 c = omega (arith, offset-read c .ends)
 
@@ -119,6 +110,5 @@ read-frame-head-spec =
     enum-told-2
     refusal-requires-2
     returns-2
-    cast-t16
     add-t12
     returns-3)

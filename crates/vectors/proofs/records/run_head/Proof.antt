@@ -60,8 +60,11 @@ shared-slice-read-word-8 c = search needs
 word-requires-4 : tie.Need-word-requires-4
 word-requires-4 c κs = search needs
 
-shared-slice-read-t17 : tie.Need-shared-slice-read-t17
-shared-slice-read-t17 c = search needs
+shared-slice-read-wide : tie.Need-shared-slice-read-wide
+shared-slice-read-wide c = search needs
+
+wide-requires : tie.Need-wide-requires
+wide-requires c κs = search needs
 
 joined-requires : tie.Need-joined-requires
 joined-requires c κs = search needs
@@ -70,7 +73,7 @@ array-borrow-prefix-space : tie.Need-array-borrow-prefix-space
 array-borrow-prefix-space c = search needs
 
 slice-aggregate-out : tie.Need-slice-aggregate-out
-slice-aggregate-out c = sym (length-take-le (c .before .before .before .before .before .before .before .before .before .before .before .before .before .before .count .result) _ (c .before .before .before .before .before .before .before .before .before .before .before .before .before .if2 .left))
+slice-aggregate-out c = sym (length-take-le (c .before .before .before .before .before .before .before .before .before .before .before .before .before .before .before .count .result) _ (c .before .before .before .before .before .before .before .before .before .before .before .before .before .before .if2 .left))
 
 write-head-requires : tie.Need-write-head-requires
 write-head-requires c κs = search needs
@@ -103,7 +106,8 @@ run-head-spec =
     shared-slice-read-word-7
     shared-slice-read-word-8
     word-requires-4
-    shared-slice-read-t17
+    shared-slice-read-wide
+    wide-requires
     joined-requires
     array-borrow-prefix-space
     slice-aggregate-out

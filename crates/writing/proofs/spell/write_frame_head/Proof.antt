@@ -14,21 +14,18 @@ use borrow.Author.Needs.{needs}
 use Rattle.writing.proofs.spell.write_frame_head.Statement.{statement}
 use Rattle.writing.proofs.spell.write_frame_head.Tie as tie
 
-count : (c : tie.After-write-u2) → let a = c .before .before .before .before .args in
+count : (c : tie.After-write-u2) → let a = c .before .before .before .args in
     Fills (strict .u2 .write (a .head .count)) (c .write-u2 .result) (now (a .out)) (c .write-u2 .last .0)
 unfolding frameHead
-count c = fills-integer 1 0 _ _ _ _ _ (c .before .before .before .before .pre .0 .0) (c .write-u2 .ensures)
+count c = fills-integer 1 0 _ _ _ _ _ (c .before .before .before .pre .0 .0) (c .write-u2 .ensures)
 
 abbrev up : tie.After-write-u8 → tie.After-write-u2
 up c = c .before .before .before .before
 
-offset : (c : tie.After-write-u8) → let x = up c .write-u2 in let a = up c .before .before .before .before .args in
+offset : (c : tie.After-write-u8) → let x = up c .write-u2 in let a = up c .before .before .before .args in
     Fills (strict .u8 .write (a .head .offset .0)) (c .write-u8 .result) (midOf (x .result .bytes) (length (x .last .0) - x .result .bytes) (x .last .0)) (c .write-u8 .last .0)
 unfolding frameHead
-offset c = fills-integer 3 0 _ _ _ _ _ (up c .before .before .before .before .pre .1 .0) (c .write-u8 .ensures)
-
-cast-write-u2 : tie.Need-cast-write-u2
-cast-write-u2 c = search needs
+offset c = fills-integer 3 0 _ _ _ _ _ (up c .before .before .before .pre .1 .0) (c .write-u8 .ensures)
 
 write-u2-requires : tie.Need-write-u2-requires
 write-u2-requires c κs = search needs
@@ -61,7 +58,6 @@ pub write-frame-head-spec : {M : Type 1} → statement M
 write-frame-head-spec =
     tie.close
     (tie.spec
-    cast-write-u2
     write-u2-requires
     sub-write-u8
     part-write-u8-start

@@ -2,7 +2,7 @@
 fn main() {
     let mut space = [0u8; 131072];
     let mut answers = [0u32; 3072];
-    let mut output = [0u8; 98304];
+    let mut output = [0u8; 2 * receiver::OUTPUT_MOST];
     let mut page = [0u8; 65536];
     report::print_file(
         libc::STDIN_FILENO,

@@ -59,7 +59,7 @@ fn run(file: &[u8], page: &mut [u8], output: &mut [u8]) -> usize {
 fn main() {
     let mut file = [0u8; 65536];
     let mut page = [0u8; 65536];
-    let mut output = [0u8; 49152];
+    let mut output = [0u8; receiver::OUTPUT_MOST];
     let n = io::read_full(libc::STDIN_FILENO, &mut file);
     let at = run(&file[..n], &mut page, &mut output);
     lines::write_out(&page, at);

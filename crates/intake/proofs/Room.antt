@@ -7,9 +7,9 @@ use mathlib.Core.List.{List, [], _∷_, _++_, map}
 use native.Mathlib.Omega.{arith}
 use lib.ListN.{length, drop}
 use Rattle.machine.specs.Table.{contacts}
+use Rattle.receiver.specs.Limits.{mostOutput}
 use Rattle.receiver.specs.History.{Sent, messagesOf, next, answerTo, wrote, after, written, Outcome, outcomes, Roomy}
 use Rattle.receiver.specs.declared.Receiver.{Receiver}
-use Rattle.receiver.proofs.Bound.{mostOutput}
 use Rattle.receiver.proofs.Records.{has-room, next-long}
 use Rattle.receiver.proofs.Rested.{same-outcomes}
 use Rattle.intake.specs.Feeding.{nextIn, sentFrom, fedFrom, numbersOf, answersTo}

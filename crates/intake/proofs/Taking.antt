@@ -19,6 +19,7 @@ use Rattle.entries.specs.declared.Front.the-variants as Front
 use Rattle.entries.proofs.Laws.{front-inside}
 use Rattle.house.specs.Fields.{recordBytes}
 use Rattle.machine.specs.Table.{contacts}
+use Rattle.receiver.specs.Limits.{mostOutput}
 use Rattle.receiver.specs.Receive.{Receives}
 use Rattle.receiver.specs.History.{Sent, next, answerTo, wrote, after, written}
 use Rattle.receiver.specs.declared.Receiver.{Receiver}
@@ -200,7 +201,7 @@ stands-first least r file a o h =
 -- an answer and its records lie within the output, and they are few
 pub record Bounded (o : List ℕ) (f : Fed) (b : Answer) : Type 0 where
   pub records : recordBytes * (f .records + b .records) ≤ length o
-  pub small : b .records ≤ 2340
+  pub small : recordBytes * b .records ≤ mostOutput
 
 module _ (least : ℕ) (r : Receiver) (file a₀ o₀ : List ℕ) (f : Fed) (a o : List ℕ) (s : Stands least r file a₀ o₀ f a o) where
   -- nothing is to come

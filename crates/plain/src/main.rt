@@ -13,14 +13,14 @@ fn is_same(message: &[u8], again: &[u8], n: usize) -> bool {
 
 // Whether the records and the time of a message are written back to its bytes.
 fn is_written_back(message: &[u8], time: Milliseconds, output: &[u8], records: usize) -> bool {
-    if 2340 < records {
+    if receiver::OUTPUT_MOST / house::RECORD_BYTES < records {
         return false;
     }
-    let end = 21 * records;
+    let end = house::RECORD_BYTES * records;
     if output.len() < end {
         return false;
     }
-    let mut again = [0u8; 4096];
+    let mut again = [0u8; messages::MESSAGE_MOST];
     let written = writing::write_touch(&mut again, time, &output[..end]);
     if written.refusal != 0 {
         return false;
@@ -60,6 +60,6 @@ fn run(space: &mut [u8], page: &mut [u8], output: &mut [u8]) {
 fn main() {
     let mut space = [0u8; 131072];
     let mut page = [0u8; 65536];
-    let mut output = [0u8; 49152];
+    let mut output = [0u8; receiver::OUTPUT_MOST];
     run(&mut space, &mut page, &mut output);
 }

@@ -1,6 +1,6 @@
 -- "48 KiB of output for each entry (no message writes more)".
 -- Assumes nothing.
-use Prim.Native.Nat.{ℕ, _≤_}
+use Prim.Native.Nat.{ℕ, _+_, _≤_}
 use mathlib.Core.Path.{_≡_, refl, ap}
 use mathlib.Core.Bool.{Bool, true, false, cond}
 use mathlib.Core.List.{List}
@@ -13,7 +13,7 @@ use Rattle.formats.specs.Format.{Got, got, bad, andThen, whole, byte}
 use Rattle.formats.proofs.Laws.{never}
 use Rattle.fields.specs.Integers.{strict}
 use Rattle.states.specs.Table.{hovering}
-use Rattle.messages.specs.Header.{headed, headerBytes, clientReady, touch}
+use Rattle.messages.specs.Header.{headed, headerBytes, mostBytes, clientReady, touch}
 use Rattle.messages.specs.Bodies.{ready}
 use Rattle.messages.proofs.Laws.{headed-got}
 use Rattle.touch.specs.Touch.{body}
@@ -22,14 +22,11 @@ use Rattle.machine.specs.Machine.{dismissBytes}
 use Rattle.machine.proofs.Machine.{keep-bytes}
 use Rattle.moves.proofs.Dismissal.{dismiss-length}
 use Rattle.receiver.specs.declared.Receiver.{Receiver}
+use Rattle.receiver.specs.Limits.{mostOutput}
 use Rattle.receiver.specs.Receive.{Effect, takes, machineOf, judged, settled, touched, dismissedBy, bodyEffect, effect}
 use Rattle.receiver.specs.Events.{readyEffect, touchEffect, dismissEffect}
 use Rattle.receiver.proofs.Weight.{touch-small}
 use Rattle.contacts.specs.Touch.{touchView}
-
--- 48 KiB
-abbrev pub mostOutput : ℕ
-mostOutput = 49152
 
 -- what a body leads to
 from-body : {A : Type 0} (f : A → Effect) (x : Got A) (e : Effect) (t : List ℕ) → andThen x (λ a u. got (f a) u) ≡ got e t → ((a : A) (u : List ℕ) → x ≡ got a u → length (f a .bytes) ≤ mostOutput)
@@ -45,7 +42,7 @@ dismiss-small t id = go (eqb (stateAt t id) hovering) refl
     go false e = rw (keep-bytes touchView t id (eqb-false (stateAt t id) hovering e)) (omega arith)
 
 module _ (r : Receiver) (h : length (r .states) ≡ contacts) where
-  body-small : (n : ℕ) (b : List ℕ) (e : Effect) (t : List ℕ) → length b ≤ 4090 → bodyEffect r n b ≡ got e t → length (e .bytes) ≤ mostOutput
+  body-small : (n : ℕ) (b : List ℕ) (e : Effect) (t : List ℕ) → headerBytes + length b ≤ mostBytes → bodyEffect r n b ≡ got e t → length (e .bytes) ≤ mostOutput
   body-small n b e t s w = go (eqb n clientReady) (eqb n touch) w
     where
       go : (x y : Bool) → cond x (readyEffect r b) (cond y (touchEffect r b) (dismissEffect r b)) ≡ got e t → length (e .bytes) ≤ mostOutput

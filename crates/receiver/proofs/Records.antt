@@ -24,10 +24,11 @@ use Rattle.machine.proofs.Machine.{cancels-from-length, keep-bytes}
 use Rattle.moves.proofs.Dismissal.{dismiss-length}
 use Rattle.receiver.specs.declared.Receiver.{Receiver}
 use Rattle.receiver.specs.declared.Answer.{Answer}
+use Rattle.receiver.specs.Limits.{mostOutput}
 use Rattle.receiver.specs.Receive.{rulesOf, machineOf, Effect, touched, effect, draftOf, refusal, answerOf, answerAfter, untimed}
 use Rattle.receiver.specs.History.{Sent, next, answerTo, wrote, writtenBy}
 use Rattle.receiver.proofs.Became.{Became, became, refused, settles, touches, dismisses}
-use Rattle.receiver.proofs.Bound.{mostOutput, no-message-writes-more}
+use Rattle.receiver.proofs.Bound.{no-message-writes-more}
 use Rattle.receiver.proofs.Invariants.{bytes-touched, machine-touched}
 use Rattle.receiver.proofs.Refusing.{Tame, effect-tame}
 use Rattle.receiver.proofs.Weight.{verdict-long}

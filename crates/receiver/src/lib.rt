@@ -25,6 +25,9 @@ pub struct Receiver {
     pub ys: [i32; 256],
 }
 
+// The most that a message writes: 48 KiB.
+pub const OUTPUT_MOST: usize = 49152;
+
 // What becomes of a message: a refusal's number, 0 for none; how many frames were injected, ignored and cancelled; encodeTime;
 // and how many records were written.
 #[repr(C)]

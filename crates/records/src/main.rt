@@ -28,6 +28,6 @@ fn run(space: &mut [u8], answers: &mut [u32], output: &mut [u8]) {
 fn main() {
     let mut space = [0u8; 131072];
     let mut answers = [0u32; 3072];
-    let mut output = [0u8; 98304];
+    let mut output = [0u8; 2 * receiver::OUTPUT_MOST];
     run(&mut space, &mut answers, &mut output);
 }

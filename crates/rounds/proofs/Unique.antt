@@ -8,7 +8,8 @@ use Rattle.feed.specs.declared.Window.{Window}
 use Rattle.intake.specs.Feeding.{TakesEntries}
 use Rattle.intake.specs.declared.Fed.{Fed}
 use Rattle.intake.proofs.Unique.{take-entries-unique}
-use Rattle.rounds.specs.Rounds.{room, begun, fedIn, GoesOn}
+use Rattle.receiver.specs.Limits.{mostOutput}
+use Rattle.rounds.specs.Rounds.{begun, fedIn, GoesOn}
 use Rattle.rounds.specs.declared.Round.{Round}
 
 pub begin-unique : (r q : Round) → r ≡ begun → q ≡ begun → r ≡ q
@@ -16,8 +17,8 @@ begin-unique r q x y = x ∙ sym y
 
 pub go-on-unique : (b r q : Round) (s₀ s a₀ a c o₀ o p : List ℕ) (x : GoesOn b r s₀ s a₀ a o₀ o) (y : GoesOn b q s₀ s a₀ c o₀ p) → x .filled ≡ y .filled → (r ≡ q) × (a ≡ c) × (o ≡ p)
 go-on-unique b r q s₀ s a₀ a c o₀ o p x y e =
-    let z : TakesEntries room (b .receiver) (bytesIn (x .filled) s) (fedIn q (y .used)) a₀ c o₀ p = rw e (y .fed) in
-    let u = take-entries-unique room (b .receiver) (bytesIn (x .filled) s) (fedIn r (x .used)) (fedIn q (y .used)) a₀ a c o₀ o p (x .fed) z in
+    let z : TakesEntries mostOutput (b .receiver) (bytesIn (x .filled) s) (fedIn q (y .used)) a₀ c o₀ p = rw e (y .fed) in
+    let u = take-entries-unique mostOutput (b .receiver) (bytesIn (x .filled) s) (fedIn r (x .used)) (fedIn q (y .used)) a₀ a c o₀ o p (x .fed) z in
     let n = ap (λ (f : Fed). f .used) (u .0) in
     let w : r .window ≡ q .window = x .rest ∙ ((λ i. record { at = e i .at + n i; end = e i .end }) ∙ sym (y .rest)) in (
       λ i. record { receiver = u .0 i .receiver; window = w i; entries = u .0 i .entries; records = u .0 i .records },

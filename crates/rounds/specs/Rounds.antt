@@ -5,14 +5,11 @@ use mathlib.Core.List.{List}
 use lib.ListN.{length}
 use Rattle.feed.specs.Within.{Inside, bytesIn, Fills}
 use Rattle.feed.specs.declared.Window.{Window}
+use Rattle.receiver.specs.Limits.{mostOutput}
 use Rattle.receiver.specs.Receive.{fresh}
 use Rattle.intake.specs.Feeding.{TakesEntries}
 use Rattle.intake.specs.declared.Fed.{Fed}
 use Rattle.rounds.specs.declared.Round.{Round}
-
--- "48 KiB of output for each entry"
-abbrev pub room : ℕ
-room = 49152
 
 abbrev pub begun : Round
 begun = record { receiver = fresh; window = record { at = 0; end = 0 }; entries = 0; records = 0 }
@@ -23,11 +20,11 @@ fedIn r used = record { receiver = r .receiver; entries = r .entries; used = use
 
 -- THE CONTRACT of a round, from b to r. The space held s₀ and holds s, the list of answers a₀ and a, the output o₀ and o.
 pub record GoesOn (b r : Round) (s₀ s a₀ a o₀ o : List ℕ) : Type 0 where
-  -- the window after more was read, and the bytes that were fed from its front
+  -- "lending 48 KiB of output for each entry"; the window after more was read, and the bytes that were fed from its front
   pub filled : Window
   pub used : ℕ
   pub fills : Fills (b .window) filled s₀ s
-  pub fed : TakesEntries room (b .receiver) (bytesIn filled s) (fedIn r used) a₀ a o₀ o
+  pub fed : TakesEntries mostOutput (b .receiver) (bytesIn filled s) (fedIn r used) a₀ a o₀ o
   pub rest : r .window ≡ record { at = filled .at + used; end = filled .end }
   -- what a caller needs, and follows
   pub window : Inside (length s) (r .window)

@@ -1,11 +1,9 @@
 // Rounds of a run over a bench file that is read: the window is filled, and the whole entries in it are fed to the receiver.
 use feed::Window;
+use receiver::OUTPUT_MOST;
 use receiver::Receiver;
 ghost use mathlib.Core.Path.{_≡_};
 ghost use Rattle.rounds.specs.Rounds.{begun, GoesOn};
-
-// "lending 48 KiB of output for each entry": no entry is fed with less.
-pub const ROOM: usize = 49152;
 
 // Where a run stands: the receiver, what is left of the input, and how many entries and records the last round had.
 pub struct Round {
@@ -40,7 +38,14 @@ pub fn go_on(
     let filled = feed::fill(input, space, round.window);
     let at = filled.at;
     let end = filled.end;
-    let fed = intake::take_entries(round.receiver, &space[at..end], ROOM, answers, output);
+    // "lending 48 KiB of output for each entry": no entry is fed with less
+    let fed = intake::take_entries(
+        round.receiver,
+        &space[at..end],
+        OUTPUT_MOST,
+        answers,
+        output,
+    );
     let next = fed.receiver;
     let rest = Window {
         at: at + fed.used,

@@ -28,7 +28,7 @@ fn add_writing(page: &mut [u8], place: usize, entry: &[u8]) -> usize {
         return lines::add_text(page, place, b" short");
     }
     let time = time_of(entry[0], entry[1], entry[2], entry[3]);
-    let mut output = [0u8; 4096];
+    let mut output = [0u8; messages::MESSAGE_MOST];
     let written = writing::write_touch(&mut output, time, &entry[4..]);
     let mut at = lines::add_field(page, place, written.refusal as u64);
     at = lines::add_field(page, at, written.bytes as u64);

@@ -36,12 +36,12 @@ pub record Fills (w r : Window) (before after : List ℕ) : Type 0 where
   pub kept : Inside (length before) w → bytesIn r after ≡ bytesIn w before ++ read
 
 -- an entry's message and the window after it lie within n bytes, and its two length bytes stand before it
-pub record Entered (n at length : ℕ) (w : Window) : Type 0 where
+pub record Entered (n at long : ℕ) (w : Window) : Type 0 where
   pub begins : 2 ≤ at
-  pub message : at + length ≤ n
+  pub message : at + long ≤ n
   pub window : Inside n w
 
 abbrev pub Within : ℕ → Next → Type 0
-Within n (Next.Entry at length w) = Entered n at length w
+Within n (Next.Entry at long w) = Entered n at long w
 Within n Next.Cut = Unit {0}
 Within n Next.End = Unit {0}

@@ -1,11 +1,10 @@
 -- What the code's answers say of the formats: each reader of integers answers its field.
 -- Assumes nothing.
 use Prim.Native.Nat.{ℕ, _≤_}
-use mathlib.Core.Path.{_≡_, refl, sym, ap, _∙_}
+use mathlib.Core.Path.{_≡_, refl, ap, _∙_}
 use mathlib.Core.List.{List}
 use native.Mathlib.Omega.{arith}
 use lib.ListN.{length}
-use Rattle.formats.specs.Format.{Got}
 use Rattle.formats.specs.Answer.{Answers}
 use Rattle.integers.specs.Integer.{Reading, value, refused, reading}
 use Rattle.integers.specs.Answer.{u2Of, s2Of, u4Of, s4Of, u8Of}
@@ -17,9 +16,9 @@ use Rattle.integers.specs.declared.ReadS4.{ReadS4}
 use Rattle.integers.specs.declared.ReadS4.the-variants as S4
 use Rattle.integers.specs.declared.ReadU8.{ReadU8}
 use Rattle.integers.proofs.Laws.{reading-inside}
+use Rattle.integers.proofs.Signed.{signed-again}
 use Rattle.fields.specs.Integers.{Shape, unsigned, signed, gotBy, integer, strict}
 use Rattle.fields.specs.Answer.{lengthOf, u2Got, u4Got, u8Got, s2Got, s4Got}
-use Rattle.fields.proofs.Laws.{whole-again}
 
 -- a reading ends inside what it was given
 pub reading-length : (k g : ℕ) (l : List ℕ) → lengthOf (reading k g l) ≤ length l
@@ -43,14 +42,14 @@ module _ (l : List ℕ) where
   u8-answers r e = answers unsigned 3 0 l (u8Of r) e
 
   s2-same : (r : ReadS2) → s2Got r l ≡ gotBy (signed .made) (s2Of r) l
-  s2-same (S2.Value z n) = rw (whole-again z)
+  s2-same (S2.Value z n) = rw (signed-again z)
   s2-same (S2.Refused e) = refl
 
   pub s2-answers : (r : ReadS2) → s2Of r ≡ reading 1 1 l → Answers (strict .s2) l (s2Got r l) (lengthOf (s2Of r))
   s2-answers r e = let a = answers signed 1 1 l (s2Of r) e in record { same = s2-same r ∙ a .same; inside = a .inside }
 
   s4-same : (r : ReadS4) → s4Got r l ≡ gotBy (signed .made) (s4Of r) l
-  s4-same (S4.Value z n) = rw (whole-again z)
+  s4-same (S4.Value z n) = rw (signed-again z)
   s4-same (S4.Refused e) = refl
 
   pub s4-answers : (r : ReadS4) → s4Of r ≡ reading 2 1 l → Answers (strict .s4) l (s4Got r l) (lengthOf (s4Of r))

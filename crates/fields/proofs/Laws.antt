@@ -1,21 +1,22 @@
 -- The five integers as lawful formats, whatever the reading, and the strict one.
 -- Assumes nothing.
 use Prim.Native.Nat.{ℕ, zero, suc, _+_, _≤_, _<_}
-use mathlib.Core.Path.{_≡_, refl, sym, ap, _∙_}
+use mathlib.Core.Path.{_≡_, refl, sym, _∙_}
 use mathlib.Core.List.{List, _++_}
 use native.Mathlib.Omega.{arith}
 use lib.Dec.{lit<, lit≤}
-use lib.IntN.{ℤ, pos, negsuc}
+use lib.IntN.{ℤ, pos, negsuc, natAbs}
 use lib.ListN.{length, take, drop, take-append-drop}
 use lib.Seq.{drop-append-seam}
 use Rattle.digits.specs.Digits.{Bytes}
 use Rattle.digits.proofs.Laws.{bytes-drop}
-use Rattle.formats.specs.Format.{Got, got, bad, Format}
+use Rattle.formats.specs.Format.{got}
 use Rattle.formats.proofs.Laws.{Law, Back, Sound, Exact, never}
 use Rattle.integers.specs.Integer.{Reading, value, refused, reading, writing, limit, signs}
-use Rattle.integers.specs.Answer.{minus, size}
+use Rattle.integers.specs.Answer.{minus, signedValue}
 use Rattle.integers.proofs.Laws.{length-and-value}
-use Rattle.fields.specs.Integers.{Shape, unsigned, whole, signed, gotBy, integer, Integers, integersBy, strict}
+use Rattle.integers.proofs.Signed.{minus-small, signed-again}
+use Rattle.fields.specs.Integers.{Shape, unsigned, signed, gotBy, integer, Integers, integersBy, strict}
 
 -- what a reading of integers promises, at whatever lengths: what is written is read back, and the value is in range
 pub record Reads (rd : ℕ → ℕ → List ℕ → Reading) (k g : ℕ) : Type 0 where
@@ -44,33 +45,24 @@ unsigned-shaped =
       size = λ s m h k. refl;
     }
 
-pub whole-again : (z : ℤ) → whole (minus z) (size z) ≡ z
-unfolding whole
-whole-again (pos n) = refl
-whole-again (negsuc n) = refl
-
-sign-low : (z : ℤ) → minus z < 2
-sign-low (pos n) = lit< tt
-sign-low (negsuc n) = lit< tt
-
-sign-plain : (z : ℤ) → minus z ≤ size z
+sign-plain : (z : ℤ) → minus z ≤ natAbs z
 sign-plain (pos n) = omega arith
 sign-plain (negsuc n) = omega arith
 
-whole-parts : (s m : ℕ) → s < 2 → s ≤ m → (minus (whole s m) ≡ s) × (size (whole s m) ≡ m)
-unfolding whole
-whole-parts zero m h k = (refl, refl)
-whole-parts (suc s) zero h k = absurd (omega arith)
-whole-parts (suc s) (suc m) h k = (omega arith, refl)
+signed-parts : (s m : ℕ) → s < 2 → s ≤ m → (minus (signedValue s m) ≡ s) × (natAbs (signedValue s m) ≡ m)
+unfolding signedValue
+signed-parts zero m h k = (refl, refl)
+signed-parts (suc s) zero h k = absurd (omega arith)
+signed-parts (suc s) (suc m) h k = (omega arith, refl)
 
 pub signed-shaped : Shaped signed 1
 signed-shaped =
     record {
-      again = whole-again;
-      low = sign-low;
+      again = signed-again;
+      low = minus-small;
       plain = sign-plain;
-      sign = λ s m h k. whole-parts s m h k .0;
-      size = λ s m h k. whole-parts s m h k .1;
+      sign = λ s m h k. signed-parts s m h k .0;
+      size = λ s m h k. signed-parts s m h k .1;
     }
 
 -- ---- an integer, of either shape

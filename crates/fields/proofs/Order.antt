@@ -1,13 +1,12 @@
 -- The five integers are read left to right: what was read, and a fault other than an end that comes too soon, stand whatever follows.
 -- Assumes nothing.
 use Prim.Native.Nat.{ℕ, _≤_}
-use mathlib.Core.Path.{_≡_, refl, sym, _∙_}
+use mathlib.Core.Path.{_≡_, refl}
 use mathlib.Core.List.{List, _++_}
 use native.Mathlib.Omega.{arith}
-use lib.ListN.{length, drop}
+use lib.ListN.{length}
 use lib.Seq.{drop-append-le}
 use Rattle.paper.specs.Refusals.{truncated}
-use Rattle.formats.specs.Format.{Got, got, bad}
 use Rattle.formats.proofs.Order.{behind, Settled, Stays, Ordered}
 use Rattle.integers.specs.Integer.{Reading, value, refused, reading}
 use Rattle.integers.proofs.Laws.{reading-inside, reading-more}

@@ -5,7 +5,7 @@ use lib.IntN.{ℤ}
 use lib.ListN.{drop}
 use Rattle.formats.specs.Format.{Got, got, bad}
 use Rattle.integers.specs.Integer.{Reading, value, refused}
-use Rattle.integers.specs.Answer.{u2Of, s2Of, u4Of, s4Of, u8Of}
+use Rattle.integers.specs.Answer.{u2Of, u4Of, u8Of}
 use Rattle.integers.specs.declared.ReadU2.{ReadU2}
 use Rattle.integers.specs.declared.ReadS2.{ReadS2}
 use Rattle.integers.specs.declared.ReadS2.the-variants as S2

@@ -1,11 +1,11 @@
 -- The five integers of 000, 2.2.2, as formats: over a reading, so that a message's format does not say which lengths are taken.
-use Prim.Native.Nat.{ℕ, zero, suc, _<_}
+use Prim.Native.Nat.{ℕ, _<_}
 use mathlib.Core.List.{List}
-use lib.IntN.{ℤ, pos, negsuc}
+use lib.IntN.{ℤ, natAbs}
 use lib.ListN.{drop}
 use Rattle.formats.specs.Format.{Got, got, bad, Format}
 use Rattle.integers.specs.Integer.{Reading, value, refused, reading, writing, limit}
-use Rattle.integers.specs.Answer.{minus, size}
+use Rattle.integers.specs.Answer.{minus, signedValue}
 
 -- values as sign and magnitude
 pub record Shape (A : Type 0) : Type 0 where
@@ -17,13 +17,8 @@ pub record Shape (A : Type 0) : Type 0 where
 abbrev pub unsigned : Shape ℕ
 unsigned = record { made = λ s m. m; sign = λ m. 0; size = λ m. m }
 
-unfoldable pub whole : ℕ → ℕ → ℤ
-whole zero m = pos m
-whole (suc s) zero = pos zero
-whole (suc s) (suc m) = negsuc m
-
 abbrev pub signed : Shape ℤ
-signed = record { made = whole; sign = minus; size = size }
+signed = record { made = signedValue; sign = minus; size = natAbs }
 
 -- a reading, as a value and the bytes after it
 abbrev pub gotBy : {A : Type 0} → (ℕ → ℕ → A) → Reading → List ℕ → Got A

@@ -9,8 +9,7 @@ use lib.ListN.{length, take, drop}
 use Rattle.paper.specs.Refusals.{badRecord}
 use Rattle.formats.specs.Format.{Got, got, bad, andThen, Format, done, field, times}
 use Rattle.house.specs.Fields.{recordBytes}
-use Rattle.house.specs.Layout.{headBytes, contactBytes, kindOf, contactOf, head, touched}
-use Rattle.house.specs.Layout as layout
+use Rattle.house.specs.Layout.{headBytes, contactBytes, kindOf, headIn, contactOf, head, touched}
 use Rattle.house.specs.WellFormed.{wellFormed, contactWell}
 use Rattle.house.specs.Fits.{HeadFits, ContactFits}
 use Rattle.house.specs.declared.Head.{Head}
@@ -24,7 +23,7 @@ stands kind l = cond (wellFormed l) (eqb (kindOf (take recordBytes l)) kind) fal
 abbrev pub headRecord : Format Head
 headRecord =
     record {
-      read = λ l. cond (stands head l) (got (layout.headOf (take recordBytes l)) (drop recordBytes l)) (bad badRecord);
+      read = λ l. cond (stands head l) (got (headIn (take recordBytes l)) (drop recordBytes l)) (bad badRecord);
       write = headBytes;
       Holds = HeadFits;
     }

@@ -10,7 +10,7 @@ use lib.ListN.{length, take, length-append}
 use lib.Seq.{take-at}
 use borrow.Author.Tests.{leb-true, leb-false, eqb-true, eqb-false, le-leb, lt-leb, eq-eqb, ne-eqb}
 use Rattle.paper.specs.Refusals.{badRecord}
-use Rattle.house.specs.Layout.{kindOf, headOf, contactOf, recordOf}
+use Rattle.house.specs.Layout.{kindOf, headIn, contactOf, recordOf}
 use Rattle.house.specs.WellFormed.{all, headSpare, contactSpare, contactWell, kindWell, wellFormed}
 use Rattle.house.specs.declared.Record.{Record}
 use Rattle.house.specs.declared.Record.the-variants as Record
@@ -34,7 +34,7 @@ pub record-short : (l : List ℕ) → length l < 21 → recordOf l ≡ Record.Re
 unfolding recordOf
 record-short l h = rw (lt-leb _ _ h)
 
-pub record-head : (l : List ℕ) → 21 ≤ length l → kindOf (take 21 l) ≡ 0 → recordOf l ≡ Record.Head (headOf (take 21 l))
+pub record-head : (l : List ℕ) → 21 ≤ length l → kindOf (take 21 l) ≡ 0 → recordOf l ≡ Record.Head (headIn (take 21 l))
 unfolding recordOf
 record-head l h k = rw (le-leb _ _ h, eq-eqb _ 0 k)
 

@@ -6,7 +6,7 @@ use mathlib.Core.List.{List, []}
 use Prim.Native.Nat.{ℕ, zero, suc, _≤_, _<_}
 use native.Mathlib.Omega.{arith}
 use lib.ListN.{length, take}
-use Rattle.house.specs.Layout.{kindOf, headOf, contactOf, recordOf}
+use Rattle.house.specs.Layout.{kindOf, headIn, contactOf, recordOf}
 use Rattle.house.specs.WellFormed.{contactWell, kindWell, wellFormed}
 use Rattle.house.specs.Fits.{HeadFits, ContactFits, InRange}
 use Rattle.house.specs.declared.Head.{Head}
@@ -34,7 +34,7 @@ head-by l h (Front.short k) e =
     absurd (omega arith)
 head-by l h (Front.head k z) e =
     let s = record-head l k z in
-    let q : headOf (take 21 l) ≡ h = cc in
+    let q : headIn (take 21 l) ≡ h = cc in
     record { long = k; fits = rw q at (head-fits (take 21 l)) }
 head-by l h (Front.contact k z) e =
     let s = record-contact l k z in

@@ -14,7 +14,7 @@ use Rattle.digits.specs.Digits.{joined, Bytes}
 use Rattle.digits.proofs.Laws.{bytes-take}
 use Rattle.house.specs.Fields.{field, packed, unpacked, valueAt}
 use Rattle.house.specs.Twos.{twosOf, ofTwos, Holds}
-use Rattle.house.specs.Layout.{head, headFields, headWidths, headBytes, headAs, headOf, contactFields, contactWidths, contactBytes, contactAs, contactOf, kindOf, recordOf, bytesOf}
+use Rattle.house.specs.Layout.{head, headFields, headWidths, headBytes, headAs, headIn, contactFields, contactWidths, contactBytes, contactAs, contactOf, kindOf, recordOf, bytesOf}
 use Rattle.house.specs.WellFormed.{headSpare, contactSpare, contactWell, kindWell, wellFormed}
 use Rattle.house.specs.Fits.{HeadFits, ContactFits}
 use Rattle.house.specs.declared.Head.{Head}
@@ -80,8 +80,8 @@ contact-spare k c = ap (valueAt 12) (contact-fields k c)
 
 -- ---- UNPACK OF PACK
 
-pub head-back : (h : Head) → HeadFits h → headOf (headBytes h) ≡ h
-unfolding headOf
+pub head-back : (h : Head) → HeadFits h → headIn (headBytes h) ≡ h
+unfolding headIn
 head-back h f =
     ap headAs (head-fields h) ∙ (λ i. record { count = mod-eq-of-lt (f .count) i; offset = record { 0 = mod-eq-of-lt (f .offset) i } })
 
@@ -111,7 +111,7 @@ contact-back k c f =
 pub record-of-head : (h : Head) (t : List ℕ) → HeadFits h → recordOf (headBytes h ++ t) ≡ Record.Head h
 record-of-head h t f =
     let e = front-is (headBytes h) t (length-head h) in
-    record-head (headBytes h ++ t) (front-long (headBytes h) t (length-head h)) (ap kindOf e ∙ kind-head h) ∙ ap Record.Head (ap headOf e ∙ head-back h f)
+    record-head (headBytes h ++ t) (front-long (headBytes h) t (length-head h)) (ap kindOf e ∙ kind-head h) ∙ ap Record.Head (ap headIn e ∙ head-back h f)
 
 -- a contact's kind is not a head's
 not-head : (k : ℕ) (c : Contact) (t : List ℕ) → 1 ≤ k → k < 4 → kindOf (take 21 (contactBytes k c ++ t)) ≡ 0 → ⊥
@@ -146,8 +146,8 @@ contact-well k c t h l f wc wk =
 
 -- ---- WHATEVER IS READ FITS ITS FIELDS
 
-pub head-fits : (s : List ℕ) → HeadFits (headOf s)
-unfolding headOf unpacked
+pub head-fits : (s : List ℕ) → HeadFits (headIn s)
+unfolding headIn unpacked
 head-fits s = record { count = field-fit 6 _; offset = field-fit 61 _ }
 
 signed-fits : (w q : ℕ) → Holds w (ofTwos w (q % 2 ^ w))
@@ -181,11 +181,11 @@ kind-fits s = field-fit 2 _
 signed-again : (w q : ℕ) → field w (twosOf w (ofTwos w (q % 2 ^ w))) ≡ field w q
 signed-again w q = ap (field w) (twos-of w (q % 2 ^ w) (field-fit w q)) ∙ field-again w q
 
-pub head-again : (s : List ℕ) → Bytes s → length s ≡ 21 → kindOf s ≡ head → headSpare s ≡ 0 → headBytes (headOf s) ≡ s
-unfolding headBytes headOf headSpare kindOf unpacked
+pub head-again : (s : List ℕ) → Bytes s → length s ≡ 21 → kindOf s ≡ head → headSpare s ≡ 0 → headBytes (headIn s) ≡ s
+unfolding headBytes headIn headSpare kindOf unpacked
 head-again s h l k z =
     let n = joined 0 s in
-    let e : headFields (headOf s) ≡ unpacked headWidths s = λ i.
+    let e : headFields (headIn s) ≡ unpacked headWidths s = λ i.
     record { width = 2; value = sym k i } ∷ field-again 6 (n / 2 ^ 160) i ∷ field-again 61 (n / 2 ^ 99) i ∷ record { width = 99; value = sym z i } ∷ [] in
     ap packed e ∙ packed-unpacked headWidths s h l refl
 

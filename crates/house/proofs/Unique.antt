@@ -8,7 +8,7 @@ use Rattle.slices.specs.Writing.{bytes, Writes}
 use Rattle.slices.specs.declared.Written.{Written}
 use Rattle.slices.proofs.Laws.{writes-unique}
 use Rattle.house.specs.Layout.{headBytes, contactBytes, recordOf}
-use Rattle.house.specs.WellFormed.{wellFormed}
+use Rattle.house.specs.WellFormed.{has, wellFormed}
 use Rattle.house.specs.declared.Head.{Head}
 use Rattle.house.specs.declared.Contact.{Contact}
 use Rattle.house.specs.declared.Record.{Record}
@@ -26,3 +26,6 @@ read-record-unique l a b e f = e ∙ sym f
 
 pub is-well-formed-unique : (l : List ℕ) (a b : Bool) → a ≡ wellFormed l → b ≡ wellFormed l → a ≡ b
 is-well-formed-unique l a b e f = e ∙ sym f
+
+pub has-field-unique : (present bit : ℕ) (a b : Bool) → a ≡ has bit present → b ≡ has bit present → a ≡ b
+has-field-unique present bit a b e f = e ∙ sym f

@@ -87,8 +87,8 @@ contactAs fs = record {
 unfoldable pub kindOf : List ℕ → ℕ
 kindOf s = valueAt 0 (unpacked headWidths s)
 
-unfoldable pub headOf : List ℕ → Head
-headOf s = headAs (unpacked headWidths s)
+unfoldable pub headIn : List ℕ → Head
+headIn s = headAs (unpacked headWidths s)
 
 unfoldable pub contactOf : List ℕ → Contact
 contactOf s = contactAs (unpacked contactWidths s)
@@ -98,7 +98,7 @@ unfoldable pub recordOf : List ℕ → Record
 recordOf l =
     let s : List ℕ = take recordBytes l in
     cond (leb recordBytes (length l))
-    (cond (eqb (kindOf s) head) (Record.Head (headOf s)) (Record.Contact (kindOf s) (contactOf s)))
+    (cond (eqb (kindOf s) head) (Record.Head (headIn s)) (Record.Contact (kindOf s) (contactOf s)))
     (Record.Refused badRecord)
 
 -- and back

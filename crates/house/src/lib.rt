@@ -12,6 +12,8 @@ mod read;
 mod signs;
 mod well;
 
+pub use well::has_field;
+
 // How many bytes a record has.
 pub const RECORD_BYTES: usize = 21;
 

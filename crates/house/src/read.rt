@@ -11,7 +11,7 @@ ghost use Prim.Native.Nat.{_+_, _-_, _/_, _%_, _^_};
 ghost use lib.ListN.{length};
 ghost use Rattle.digits.specs.Digits.{joined};
 ghost use Rattle.house.specs.Fields.{unpacked};
-ghost use Rattle.house.specs.Layout.{contactWidths, kindOf, headOf, contactOf};
+ghost use Rattle.house.specs.Layout.{contactWidths, kindOf, headIn, contactOf};
 ghost use Rattle.house.specs.Twos.{ofTwos, Holds};
 ghost use Rattle.house.specs.Filling.{Within};
 ghost use Rattle.house.specs.Parts.{pointAs, sidesAs};
@@ -25,7 +25,7 @@ pub(crate) fn read_kind(whole: &[u8]) -> u8
 
 pub(crate) fn read_head(whole: &[u8]) -> Head
     requires { ⌜ length (now whole) ≡ 21 ⌝ }
-    ensures { λ r. ⌜ r ≡ headOf (now (whole .entry)) ⌝ }
+    ensures { λ r. ⌜ r ≡ headIn (now (whole .entry)) ⌝ }
 {
     let count = get(whole, 2, 6) as u16;
     let offset = get(whole, 8, 61);

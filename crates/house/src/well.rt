@@ -14,7 +14,6 @@ use crate::signs::is_zero;
 ghost use mathlib.Core.Path.{_≡_};
 ghost use lib.ListN.{length};
 ghost use lib.Dec.{eqb};
-ghost use Prim.Native.Nat.{_<_};
 ghost use Rattle.house.specs.WellFormed.{has, atMost, sidesWell, contactWell, kindWell, headSpare, contactSpare};
 ghost use Rattle.house.specs.Parts.{oneSideWell, pointWell};
 
@@ -35,11 +34,13 @@ pub(crate) fn is_contact_spare_zero(whole: &[u8]) -> bool
     get(whole, 164, 4) == 0
 }
 
-// Whether fieldsPresent has a bit.
-fn has_field(bit: u8, present: u8) -> bool
-    requires { ⌜ 0 < bit ⌝ }
+// Whether fieldsPresent has a bit; none is 0.
+pub fn has_field(present: u16, bit: u16) -> bool
     ensures { λ r. ⌜ r ≡ has bit present ⌝ }
 {
+    if bit == 0 {
+        return false;
+    }
     present / bit % 2 == 1
 }
 
@@ -88,17 +89,10 @@ pub(crate) fn is_contact_well(contact: Contact) -> bool
     let sides = contact.sides;
     let flags_well = states::is_listed(contact.flags as u32);
     let point_well = is_point_well(point);
-    let sides_well = are_sides_well(has_field(1, contact.present), sides);
-    let orientation_well = is_at_most(
-        has_field(2, contact.present),
-        ORIENTATION_MOST,
-        contact.orientation,
-    );
-    let pressure_well = is_at_most(
-        has_field(4, contact.present),
-        PRESSURE_MOST,
-        contact.pressure,
-    );
+    let present = contact.present as u16;
+    let sides_well = are_sides_well(has_field(present, 1), sides);
+    let orientation_well = is_at_most(has_field(present, 2), ORIENTATION_MOST, contact.orientation);
+    let pressure_well = is_at_most(has_field(present, 4), PRESSURE_MOST, contact.pressure);
     flags_well & point_well & sides_well & orientation_well & pressure_well
 }
 

@@ -17,7 +17,7 @@ use Rattle.paper.specs.Refusals.{truncated, notShortest, badRange}
 use Rattle.digits.specs.Digits.{joined, digits, Bytes}
 use Rattle.digits.proofs.Laws.{bytes-take, pow-pos, joined-whole, joined-div, joined-small, digits-joined, length-digits, digits-bytes}
 use Rattle.slices.specs.Writing.{bytes, refuse}
-use Rattle.integers.specs.Integer.{Reading, value, refused, decoded, furthest, fewest, only, strict, formed, written, countOf, signOf, tops, signs, limit, reading, writing, draft}
+use Rattle.integers.specs.Integer.{Reading, value, refused, decoded, furthest, fewest, only, decodedOnly, formed, written, countOf, signOf, tops, signs, limit, reading, writing, draft}
 use Rattle.integers.proofs.Fewest.{fewest-fits}
 use Rattle.integers.proofs.ByteOne.{tops-pos, signs-pos, count-range, held, top-byte}
 
@@ -163,12 +163,12 @@ module _ (t s m n : ℕ) where
   only-same e h = rw (eq-eqb _ _ e, le-leb _ _ h)
 
 -- reading what was written gives the value back with its length, whatever follows
-pub strict-written : (t q s m : ℕ) (l : List ℕ) → s < q → s ≤ m → m < t * 256 ^ furthest → strict t q (written t q s m ++ l) ≡ value s m (length (written t q s m))
-unfolding strict only
-strict-written t q s m l hs hp hm =
+pub only-form-written : (t q s m : ℕ) (l : List ℕ) → s < q → s ≤ m → m < t * 256 ^ furthest → decodedOnly t q (written t q s m ++ l) ≡ value s m (length (written t q s m))
+unfolding decodedOnly only
+only-form-written t q s m l hs hp hm =
     rw (decoded-formed t q (fewest furthest t m) s m l hs (fewest-fits furthest t m hm), eq-eqb (fewest furthest t m + 1) (fewest furthest t m + 1) refl, le-leb s m hp, length-formed)
 
--- what a strict reading accepts begins with exactly the bytes that are written for the value
+-- what is read begins with exactly the bytes that are written for the value
 pub record Accepted (t q : ℕ) (l : List ℕ) (s m n : ℕ) : Type 0 where
   pub inside : n ≤ length l
   pub sign : s < q
@@ -176,9 +176,9 @@ pub record Accepted (t q : ℕ) (l : List ℕ) (s m n : ℕ) : Type 0 where
   pub bytes : take n l ≡ written t q s m
   pub least : n ≡ fewest furthest t m + 1
 
-pub strict-accepted : (t q : ℕ) → 0 < t → 0 < q → (l : List ℕ) (s m n : ℕ) → Bytes l → strict t q l ≡ value s m n → Accepted t q l s m n
-unfolding strict
-strict-accepted t q ht hq l s m n h e =
+pub only-form-accepted : (t q : ℕ) → 0 < t → 0 < q → (l : List ℕ) (s m n : ℕ) → Bytes l → decodedOnly t q l ≡ value s m n → Accepted t q l s m n
+unfolding decodedOnly
+only-form-accepted t q ht hq l s m n h e =
     let o = only-value t (decoded t q l) s m n e in
     let d = decoded-bytes t q ht hq l s m n h (o .same) in
     let ec : countOf t q (getD l 0 0) ≡ fewest furthest t m = omega (arith, o .least, d .count) in
@@ -191,14 +191,14 @@ strict-accepted t q ht hq l s m n h e =
     }
 
 -- what follows changes nothing, but where the list ended inside the integer
-pub strict-more : (t q : ℕ) (l more : List ℕ) (x : Reading) → strict t q l ≡ x → (x ≡ refused truncated → ⊥) → strict t q (l ++ more) ≡ x
-unfolding strict only
-strict-more t q l more x e other = ap (only t) (decoded-more t q l more (decoded t q l) refl (λ d. other (sym e ∙ ap (only t) d))) ∙ e
+pub only-form-more : (t q : ℕ) (l more : List ℕ) (x : Reading) → decodedOnly t q l ≡ x → (x ≡ refused truncated → ⊥) → decodedOnly t q (l ++ more) ≡ x
+unfolding decodedOnly only
+only-form-more t q l more x e other = ap (only t) (decoded-more t q l more (decoded t q l) refl (λ d. other (sym e ∙ ap (only t) d))) ∙ e
 
 -- 5 where the list ends inside the integer or before it
-pub strict-short : (t q : ℕ) (l : List ℕ) → length l ≤ countOf t q (getD l 0 0) → strict t q l ≡ refused truncated
-unfolding strict only
-strict-short t q l h = ap (only t) (decoded-short t q l h)
+pub only-form-short : (t q : ℕ) (l : List ℕ) → length l ≤ countOf t q (getD l 0 0) → decodedOnly t q l ≡ refused truncated
+unfolding decodedOnly only
+only-form-short t q l h = ap (only t) (decoded-short t q l h)
 
 -- what is decoded is refused with 5 alone
 pub decoded-refused : (t q : ℕ) (l : List ℕ) (e : ℕ) → decoded t q l ≡ refused e → e ≡ truncated
@@ -219,9 +219,9 @@ only-refused t s m n e h = go (eqb (fewest furthest t m + 1) n) (leb s m) h
     go false y h = cc
 
 -- so an integer is refused with 5 or 6
-pub strict-refused : (t q : ℕ) (l : List ℕ) (e : ℕ) → strict t q l ≡ refused e → (truncated ≤ e) × (e ≤ notShortest)
-unfolding strict only
-strict-refused t q l e h = go (decoded t q l) refl h
+pub only-form-refused : (t q : ℕ) (l : List ℕ) (e : ℕ) → decodedOnly t q l ≡ refused e → (truncated ≤ e) × (e ≤ notShortest)
+unfolding decodedOnly only
+only-form-refused t q l e h = go (decoded t q l) refl h
   where
     go : (x : Reading) → decoded t q l ≡ x → only t x ≡ refused e → (truncated ≤ e) × (e ≤ notShortest)
     go (value s m n) d h = omega (arith, only-refused t s m n e h)
@@ -230,11 +230,11 @@ strict-refused t q l e h = go (decoded t q l) refl h
 -- ---- by count bits and sign bits
 
 pub reading-inside : (k g : ℕ) (l : List ℕ) (s m n : ℕ) → reading k g l ≡ value s m n → n ≤ length l
-unfolding strict
+unfolding decodedOnly
 reading-inside k g l s m n e = decoded-inside (tops k g) (signs g) l s m n (only-value (tops k g) (decoded (tops k g) (signs g) l) s m n e .same)
 
 pub reading-more : (k g : ℕ) (l more : List ℕ) (x : Reading) → reading k g l ≡ x → (x ≡ refused truncated → ⊥) → reading k g (l ++ more) ≡ x
-reading-more k g = strict-more (tops k g) (signs g)
+reading-more k g = only-form-more (tops k g) (signs g)
 
 -- what is decoded, at any length, is in the range of its kind
 pub record Bounded (k g : ℕ) (s m n : ℕ) : Type 0 where
@@ -261,7 +261,7 @@ pub record Ranged (k g : ℕ) (s m n : ℕ) : Type 0 where
   pub len : n ≤ 2 ^ k
 
 pub reading-ranged : (k g : ℕ) (l : List ℕ) (s m n : ℕ) → k + g ≤ 8 → Bytes l → reading k g l ≡ value s m n → Ranged k g s m n
-unfolding strict
+unfolding decodedOnly
 reading-ranged k g l s m n h hl e =
     let o = only-value (tops k g) (decoded (tops k g) (signs g) l) s m n e in
     let b = decoded-bounded k g l s m n h hl (o .same) in
@@ -277,8 +277,8 @@ pub record LengthAndValue (k g : ℕ) : Type 0 where
 pub length-and-value : (k g : ℕ) → k ≤ 3 → k + g ≤ 8 → LengthAndValue k g
 length-and-value k g hk h =
     record {
-      back = λ s m l hs hp hm. strict-written (tops k g) (signs g) s m l hs hp (held k g m hk h hm .long);
-      exact = λ l s m n hl e. strict-accepted (tops k g) (signs g) (tops-pos k g) (signs-pos g) l s m n hl e .bytes;
+      back = λ s m l hs hp hm. only-form-written (tops k g) (signs g) s m l hs hp (held k g m hk h hm .long);
+      exact = λ l s m n hl e. only-form-accepted (tops k g) (signs g) (tops-pos k g) (signs-pos g) l s m n hl e .bytes;
       range = λ l s m n hl e. reading-ranged k g l s m n h hl e;
     }
 

@@ -6,20 +6,26 @@ use mathlib.Core.Bool.{Bool, true, false, cond}
 use native.Mathlib.Nat.{zero-add}
 use native.Mathlib.Omega.{arith}
 use lib.Dec.{ltb}
-use lib.IntN.{ℤ, pos, negsuc, _-ℤ_}
+use lib.IntN.{ℤ, pos, negsuc, natAbs, _-ℤ_}
 use lib.Signed.{ltZ}
 use borrow.Author.Tests.{lt-ltb, ltb-true}
 use mir.Syntax.{Width}
 use mir.Val.{SFits, toZ, ofZ, hbits}
 use mir.Facts.{toZ-pos, toZ-ofZ}
-use Rattle.integers.specs.Answer.{minus, size}
+use Rattle.integers.specs.Answer.{minus, signedValue}
 
 pub minus-small : (z : ℤ) → minus z < 2
 minus-small (pos n) = omega arith
 minus-small (negsuc n) = omega arith
 
+-- a value is its sign and its magnitude
+pub signed-again : (z : ℤ) → signedValue (minus z) (natAbs z) ≡ z
+unfolding signedValue
+signed-again (pos n) = refl
+signed-again (negsuc n) = refl
+
 -- a magnitude below half a width's values fits the width
-pub fits-size : (w : Width) (z : ℤ) → size z < 2 ^ hbits w → SFits w z
+pub fits-size : (w : Width) (z : ℤ) → natAbs z < 2 ^ hbits w → SFits w z
 fits-size w (pos n) h = record { sfits = h }
 fits-size w (negsuc n) h = record { sfits = omega arith }
 
@@ -36,7 +42,7 @@ less-fits w a b h k = rw (toZ-pos w h, toZ-pos w k) (go b k)
     go (suc b) k = cases (suc b) k (ltb a (suc b))
 
 -- nothing less m
-pub below-zero : (m : ℕ) → 0 < m → (minus (pos 0 -ℤ pos m) ≡ 1) × (size (pos 0 -ℤ pos m) ≡ m)
+pub below-zero : (m : ℕ) → 0 < m → (minus (pos 0 -ℤ pos m) ≡ 1) × (natAbs (pos 0 -ℤ pos m) ≡ m)
 below-zero zero h = absurd (omega arith)
 below-zero (suc m) h = rw (lt-ltb 0 (suc m) h) (refl, omega arith)
 

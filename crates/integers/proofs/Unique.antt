@@ -1,14 +1,13 @@
 -- Two outcomes that a contract of this crate allows are equal, in the answer and in the output.
 -- Assumes nothing.
-use Prim.Native.Nat.{ℕ, zero, suc}
+use Prim.Native.Nat.{ℕ}
 use mathlib.Core.Path.{_≡_, refl, sym, ap, _∙_}
 use mathlib.Core.List.{List}
-use lib.IntN.{ℤ, pos, negsuc}
 use Rattle.slices.specs.Writing.{Writes}
 use Rattle.slices.specs.declared.Written.{Written}
 use Rattle.slices.proofs.Laws.{writes-unique}
 use Rattle.integers.specs.Integer.{Reading, value, refused, draft}
-use Rattle.integers.specs.Answer.{minus, size, u2Of, s2Of, u4Of, s4Of, u8Of}
+use Rattle.integers.specs.Answer.{signedValue, u2Of, s2Of, u4Of, s4Of, u8Of}
 use Rattle.integers.specs.declared.ReadU2.{ReadU2}
 use Rattle.integers.specs.declared.ReadU2.the-variants as U2
 use Rattle.integers.specs.declared.ReadS2.{ReadS2}
@@ -19,6 +18,7 @@ use Rattle.integers.specs.declared.ReadS4.{ReadS4}
 use Rattle.integers.specs.declared.ReadS4.the-variants as S4
 use Rattle.integers.specs.declared.ReadU8.{ReadU8}
 use Rattle.integers.specs.declared.ReadU8.the-variants as U8
+use Rattle.integers.proofs.Signed.{signed-again}
 
 -- ---- readers
 
@@ -29,16 +29,6 @@ Unique {A} of = (x : Reading) (a b : A) → of a ≡ x → of b ≡ x → a ≡ 
 -- so it is where the answer can be made again of its meaning
 by-making : {A : Type 0} (of : A → Reading) (make : Reading → A) → ((a : A) → make (of a) ≡ a) → Unique of
 by-making of make back x a b ea eb = sym (back a) ∙ ap make (ea ∙ sym eb) ∙ back b
-
--- the value of a sign and a magnitude
-abbrev whole : ℕ → ℕ → ℤ
-whole zero m = pos m
-whole (suc s) zero = pos zero
-whole (suc s) (suc m) = negsuc m
-
-whole-back : (z : ℤ) → whole (minus z) (size z) ≡ z
-whole-back (pos n) = refl
-whole-back (negsuc n) = refl
 
 -- an answer, of its two cases
 abbrev make : {A : Type 0} → (ℕ → ℕ → ℕ → A) → (ℕ → A) → Reading → A
@@ -53,10 +43,10 @@ read-u2-unique = by-making u2Of (make (λ s m n. U2.Value m n) U2.Refused) back
     back (U2.Refused e) = refl
 
 pub read-s2-unique : Unique s2Of
-read-s2-unique = by-making s2Of (make (λ s m n. S2.Value (whole s m) n) S2.Refused) back
+read-s2-unique = by-making s2Of (make (λ s m n. S2.Value (signedValue s m) n) S2.Refused) back
   where
-    back : (a : ReadS2) → make (λ s m n. S2.Value (whole s m) n) S2.Refused (s2Of a) ≡ a
-    back (S2.Value z n) = ap (λ y. S2.Value y n) (whole-back z)
+    back : (a : ReadS2) → make (λ s m n. S2.Value (signedValue s m) n) S2.Refused (s2Of a) ≡ a
+    back (S2.Value z n) = ap (λ y. S2.Value y n) (signed-again z)
     back (S2.Refused e) = refl
 
 pub read-u4-unique : Unique u4Of
@@ -67,10 +57,10 @@ read-u4-unique = by-making u4Of (make (λ s m n. U4.Value m n) U4.Refused) back
     back (U4.Refused e) = refl
 
 pub read-s4-unique : Unique s4Of
-read-s4-unique = by-making s4Of (make (λ s m n. S4.Value (whole s m) n) S4.Refused) back
+read-s4-unique = by-making s4Of (make (λ s m n. S4.Value (signedValue s m) n) S4.Refused) back
   where
-    back : (a : ReadS4) → make (λ s m n. S4.Value (whole s m) n) S4.Refused (s4Of a) ≡ a
-    back (S4.Value z n) = ap (λ y. S4.Value y n) (whole-back z)
+    back : (a : ReadS4) → make (λ s m n. S4.Value (signedValue s m) n) S4.Refused (s4Of a) ≡ a
+    back (S4.Value z n) = ap (λ y. S4.Value y n) (signed-again z)
     back (S4.Refused e) = refl
 
 pub read-u8-unique : Unique u8Of

@@ -60,12 +60,12 @@ unfoldable pub only : ℕ → Reading → Reading
 only t (value s m n) = cond (eqb (fewest furthest t m + 1) n) (cond (leb s m) (value s m n) (refused notShortest)) (refused notShortest)
 only t (refused e) = refused e
 
-unfoldable pub strict : ℕ → ℕ → List ℕ → Reading
-strict t q l = only t (decoded t q l)
+unfoldable pub decodedOnly : ℕ → ℕ → List ℕ → Reading
+decodedOnly t q l = only t (decoded t q l)
 
--- the strict reading, by count bits and sign bits
+-- reading, by count bits and sign bits
 abbrev pub reading : ℕ → ℕ → List ℕ → Reading
-reading k g = strict (tops k g) (signs g)
+reading k g = decodedOnly (tops k g) (signs g)
 
 -- the number of a refusal, and 0 of a value
 abbrev pub refusalOf : Reading → ℕ

@@ -8,13 +8,14 @@ use crate::found::Found;
 use crate::found::find;
 ghost use mathlib.Core.Path.{_≡_};
 ghost use Prim.Native.Nat.{_^_, _<_, _≤_};
+ghost use lib.IntN.{natAbs};
 ghost use Rattle.integers.specs.Integer.{reading};
-ghost use Rattle.integers.specs.Answer.{minus, size, u2Of, s2Of, u4Of, s4Of, u8Of};
+ghost use Rattle.integers.specs.Answer.{minus, u2Of, s2Of, u4Of, s4Of, u8Of};
 
 // The integer of sign s, 1 for minus, and magnitude m.
 fn signed(s: u8, m: u64) -> i32
     requires { ⌜ (s ≤ 1) × (s ≤ m) × (m < 2 ^ 31) ⌝ }
-    ensures { λ r. ⌜ (minus r ≡ s) × (size r ≡ m) ⌝ }
+    ensures { λ r. ⌜ (minus r ≡ s) × (natAbs r ≡ m) ⌝ }
 {
     if s == 0 {
         return m as i32;

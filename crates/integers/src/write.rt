@@ -6,11 +6,12 @@ use slices::Written;
 ghost use mathlib.Core.Path.{_≡_};
 ghost use Prim.Native.Nat.{_+_, _*_, _/_, _^_, _<_, _≤_};
 ghost use mathlib.Core.List.{_++_};
+ghost use lib.IntN.{natAbs};
 ghost use lib.ListN.{length, take, drop};
 ghost use Rattle.digits.specs.Digits.{digits};
 ghost use Rattle.slices.specs.Writing.{laid, Writes};
 ghost use Rattle.integers.specs.Integer.{formed, draft, limit, signs};
-ghost use Rattle.integers.specs.Answer.{minus, size};
+ghost use Rattle.integers.specs.Answer.{minus};
 
 // The c lowest digits of m behind the first byte of out; what is above them is handed back.
 fn fill(out: &mut [u8], m: u64, c: usize) -> u64
@@ -27,13 +28,14 @@ fn fill(out: &mut [u8], m: u64, c: usize) -> u64
     v
 }
 
-// Sign s and magnitude m with c further bytes, at the front of an output that has room for them.
-fn put(out: &mut [u8], tops: u8, signs: u8, c: usize, s: u8, m: u64)
-    requires { ⌜ (s < signs) × (m < tops * 256 ^ c) × ((c + 1) * (signs * tops) ≤ 256) × (c < length (now out)) ⌝ }
-    ensures { λ _. ⌜ now (out .exit) ≡ laid (now (out .entry)) (formed tops signs c s m) ⌝ }
+// Sign s and magnitude m with c further bytes, at the front of an output that has room for them; byte one has t values for the
+// magnitude and q for the sign.
+fn put(out: &mut [u8], t: u8, q: u8, c: usize, s: u8, m: u64)
+    requires { ⌜ (s < q) × (m < t * 256 ^ c) × ((c + 1) * (q * t) ≤ 256) × (c < length (now out)) ⌝ }
+    ensures { λ _. ⌜ now (out .exit) ≡ laid (now (out .entry)) (formed t q c s m) ⌝ }
 {
     let top = fill(out, m, c);
-    out[0] = ((c as u8) * signs + s) * tops + (top as u8);
+    out[0] = ((c as u8) * q + s) * t + (top as u8);
 }
 
 // Sign s and magnitude m, in the only form of k count bits and g sign bits. Nothing is stored before
@@ -71,7 +73,7 @@ struct Parts {
 
 // The least i32 has no opposite in i32: it is negated as an i64.
 fn split(z: i32) -> Parts
-    ensures { λ r. ⌜ (r .minus ≡ minus z) × (r .size ≡ size z) ⌝ }
+    ensures { λ r. ⌜ (r .minus ≡ minus z) × (r .size ≡ natAbs z) ⌝ }
 {
     if z < 0 {
         return Parts {
@@ -92,7 +94,7 @@ pub fn write_u2(out: &mut [u8], value: u16) -> Written
 }
 
 pub fn write_s2(out: &mut [u8], value: i16) -> Written
-    ensures { λ r. ⌜ Writes (draft 1 1 (minus value) (size value)) r (now (out .entry)) (now (out .exit)) ⌝ }
+    ensures { λ r. ⌜ Writes (draft 1 1 (minus value) (natAbs value)) r (now (out .entry)) (now (out .exit)) ⌝ }
 {
     let p = split(value as i32);
     write(out, 1, 1, 0x3FFF, p.minus, p.size)
@@ -105,7 +107,7 @@ pub fn write_u4(out: &mut [u8], value: u32) -> Written
 }
 
 pub fn write_s4(out: &mut [u8], value: i32) -> Written
-    ensures { λ r. ⌜ Writes (draft 2 1 (minus value) (size value)) r (now (out .entry)) (now (out .exit)) ⌝ }
+    ensures { λ r. ⌜ Writes (draft 2 1 (minus value) (natAbs value)) r (now (out .entry)) (now (out .exit)) ⌝ }
 {
     let p = split(value);
     write(out, 2, 1, 0x1FFF_FFFF, p.minus, p.size)

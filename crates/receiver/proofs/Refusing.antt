@@ -10,8 +10,7 @@ use lib.ListN.{length, getD, drop}
 use Rattle.paper.specs.Refusals.{none, short, tooLong, unexpected, badLength, truncated, notShortest, badCount, badField, badFlags, badRange, badOffset, trailing, noRoom}
 use Rattle.slices.specs.Writing.{laid, Draft, bytes, refuse, given, left}
 use Rattle.formats.specs.Format.{Got, got, bad, andThen, Format, done, field, such, when, readSeries, series, ended, whole, readByte, byte, readLittle, little}
-use Rattle.integers.specs.Integer.{Reading, value, refused, tops, signs, countOf, decoded, fewest, furthest, only, reading}
-use Rattle.integers.specs.Integer as integers
+use Rattle.integers.specs.Integer.{Reading, value, refused, tops, signs, countOf, decoded, fewest, furthest, only, decodedOnly, reading}
 use Rattle.fields.specs.Integers.{Shape, gotBy, integer, unsigned, signed, strict}
 use Rattle.house.specs.WellFormed.{has}
 use Rattle.house.specs.Fits.{noSides}
@@ -124,7 +123,7 @@ got-tame made (value s m n) l h = tt
 got-tame made (refused n) l h = h
 
 integer-tame : {A : Type 0} (h : Shape A) (k g : ℕ) → Tamed (integer h reading k g)
-unfolding integers.strict
+unfolding decodedOnly
 integer-tame h k g =
     let t = tops k g in
     let q = signs g in

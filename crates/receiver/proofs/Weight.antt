@@ -12,8 +12,7 @@ use Rattle.paper.specs.Refusals.{notShortest, truncated}
 use Rattle.formats.specs.Format.{Got, got, bad, andThen, Format, done, field, such, when, readSeries, readByte, byte}
 use Rattle.formats.proofs.Laws.{such-got, more-got}
 use Rattle.formats.proofs.Laws as formats
-use Rattle.integers.specs.Integer.{Reading, value, refused, reading, tops, signs, decoded, fewest, furthest, only}
-use Rattle.integers.specs.Integer as integers
+use Rattle.integers.specs.Integer.{Reading, value, refused, reading, tops, signs, decoded, fewest, furthest, only, decodedOnly}
 use Rattle.integers.proofs.Laws.{reading-inside, never}
 use Rattle.fields.specs.Integers.{Shape, unsigned, signed, gotBy, integer, Integers, strict}
 use Rattle.house.specs.Fields.{recordBytes}
@@ -72,7 +71,7 @@ takes-byte = record { least = go }
     go (x ∷ l) a t h = let e : l ≡ t = cc in omega (arith, ap length e)
 
 reads-one : (k g : ℕ) (l : List ℕ) (s m n : ℕ) → reading k g l ≡ value s m n → 1 ≤ n
-unfolding integers.strict only
+unfolding decodedOnly only
 reads-one k g l s m n h = go (decoded (tops k g) (signs g) l) h
   where
     on : (a b c : ℕ) (x y : Bool) → (x ≡ true → 1 ≤ c) → cond x (cond y (value a b c) (refused notShortest)) (refused notShortest) ≡ value s m n → 1 ≤ n

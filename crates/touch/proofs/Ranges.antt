@@ -7,13 +7,12 @@ use mathlib.Core.List.{List}
 use native.Mathlib.Omega.{arith}
 use borrow.Author.Tests.{ltb-true, leb-true, lt-ltb}
 use lib.Dec.{leb, lit≤}
-use lib.IntN.{ℤ, pos, negsuc}
+use lib.IntN.{ℤ, pos, negsuc, natAbs}
 use lib.ListN.{length}
 use Rattle.paper.specs.Refusals.{badRange}
 use Rattle.digits.specs.Digits.{Bytes}
 use Rattle.states.proofs.Rule.{listed-small}
 use Rattle.formats.specs.Format.{got, HoldsWhen, such}
-use Rattle.integers.specs.Answer.{size}
 use Rattle.integers.specs.Integer.{limit}
 use Rattle.fields.specs.Integers.{strict}
 use Rattle.fields.proofs.Laws.{strict-law}
@@ -30,11 +29,11 @@ use Rattle.touch.proofs.Laws.{contact-law, frame-law}
 
 -- ---- signed values
 
-holds : (w n : ℕ) (z : ℤ) → size z < n → 2 * n ≤ 2 ^ w → Holds w z
+holds : (w n : ℕ) (z : ℤ) → natAbs z < n → 2 * n ≤ 2 ^ w → Holds w z
 holds w n (pos m) h k = record { holds = omega arith }
 holds w n (negsuc m) h k = record { holds = omega arith }
 
-above-most : (n : ℕ) (z : ℤ) → size z < suc n → above n z ≡ true
+above-most : (n : ℕ) (z : ℤ) → natAbs z < suc n → above n z ≡ true
 unfolding above
 above-most n (pos m) h = refl
 above-most n (negsuc m) h = lt-ltb m n (omega arith)
@@ -60,7 +59,7 @@ record SidesFit (s : Sides) : Type 0 where
 sides-fit : (there : Bool) (s : Sides) → SidesHold there s → SidesFit s
 unfolding sides
 sides-fit true s h =
-    let one : (z : ℤ) → size z < limit 1 1 → Holds 15 z = λ z k. holds 15 (limit 1 1) z k (lit≤ tt) in
+    let one : (z : ℤ) → natAbs z < limit 1 1 → Holds 15 z = λ z k. holds 15 (limit 1 1) z k (lit≤ tt) in
     record { left = one (s .left) (h .0); top = one (s .top) (h .1 .0); right = one (s .right) (h .1 .1 .0); bottom = one (s .bottom) (h .1 .1 .1 .0) }
 sides-fit false s h =
     let none : Holds 15 (pos 0) = record { holds = omega arith } in

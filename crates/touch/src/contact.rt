@@ -8,38 +8,28 @@ use crate::parts;
 use house::Contact;
 use house::ORIENTATION_MOST;
 use house::PRESSURE_MOST;
+use house::has_field;
 use integers::ReadU2;
 use integers::ReadU4;
-ghost use mathlib.Core.Path.{_≡_};
-ghost use Prim.Native.Nat.{_<_};
 ghost use Rattle.formats.specs.Answer.{Answers};
 ghost use Rattle.fields.specs.Integers.{strict};
-ghost use Rattle.house.specs.WellFormed.{has};
 ghost use Rattle.touch.specs.Touch.{optional, contact};
 ghost use Rattle.touch.specs.Answer.{optionalGot, optionalLength, contactGot, contactLength};
-
-// Whether fieldsPresent has a bit.
-fn has_bit(present: u16, bit: u16) -> bool
-    requires { ⌜ 0 < bit ⌝ }
-    ensures { λ r. ⌜ r ≡ has bit present ⌝ }
-{
-    present / bit % 2 == 1
-}
 
 // The fields that fieldsPresent says are there.
 fn read_optional(rest: &[u8], present: u16) -> ReadOptional
     ensures { λ r. ⌜ Answers (optional strict present) (now (rest .entry)) (optionalGot r (now (rest .entry))) (optionalLength r) ⌝ }
 {
-    let got_sides = parts::read_sides(rest, has_bit(present, 1));
+    let got_sides = parts::read_sides(rest, has_field(present, 1));
     let ReadSides::Value(sides, at_turn) = got_sides else {
         return ReadOptional::Refused(got_sides.refusal());
     };
-    let got_turn = parts::read_up_to(&rest[at_turn..], has_bit(present, 2), ORIENTATION_MOST);
+    let got_turn = parts::read_up_to(&rest[at_turn..], has_field(present, 2), ORIENTATION_MOST);
     let ReadU4::Value(orientation, n_turn) = got_turn else {
         return ReadOptional::Refused(got_turn.refusal());
     };
     let at_press = at_turn + n_turn;
-    let got_press = parts::read_up_to(&rest[at_press..], has_bit(present, 4), PRESSURE_MOST);
+    let got_press = parts::read_up_to(&rest[at_press..], has_field(present, 4), PRESSURE_MOST);
     let ReadU4::Value(pressure, n_press) = got_press else {
         return ReadOptional::Refused(got_press.refusal());
     };

@@ -22,9 +22,9 @@ use Rattle.house.specs.declared.Contact.{Contact}
 use Rattle.framing.specs.Frame.{Frame}
 use Rattle.frame_records.specs.Records.{framesIn}
 use Rattle.writing.specs.TouchDraft.{messageOf, framesDraft, touchDraft}
-use Rattle.writing.specs.Filling.{Fills}
+use Rattle.writing.specs.Filling.{Lays}
 use Rattle.writing.specs.Spelling.{Spelt, bodyOf, counted}
-use Rattle.writing.proofs.Filling.{Room, room, fills-done, fills-count, fills-refusal}
+use Rattle.writing.proofs.Filling.{Room, room, lays-done, lays-count, lays-refusal}
 use Rattle.writing.proofs.Spelt.{spelling-of}
 
 -- 10
@@ -86,25 +86,25 @@ module _ (time : Milliseconds) (l : List ℕ) (early : time .0 < limit 2 0) wher
           spelling-of time l (f .frames) (f .after) hl (f .read) .same
           ∙ ap (λ (k : ℕ). header event.touch (headerBytes + length (bodyOf time k (length l / 21) l)) ++ bodyOf time k (length l / 21) l) (f .count)
 
-      module _ (w : Written) (d after : List ℕ) (size : length d ≡ mostBytes) (h : Fills spelled w d after) where
+      module _ (w : Written) (d after : List ℕ) (size : length d ≡ mostBytes) (h : Lays spelled w d after) where
         -- 2
         pub draft-too-long : (w .refusal ≡ 0 → ⊥) → touchDraft time l ≡ refuse tooLong
         draft-too-long e = go (room (length spelled) (length d))
           where
             go : Room (length spelled) (length d) → touchDraft time l ≡ refuse tooLong
-            go (Room.enough k) = absurd (e (fills-refusal spelled w d after h k))
+            go (Room.enough k) = absurd (e (lays-refusal spelled w d after h k))
             go (Room.short k) = draft-long (omega (arith, k, size, ap length spelled-is))
 
         -- the message stands at the front
         pub standing : w .refusal ≡ 0 → take (w .bytes) after ≡ spelled
         standing e =
-            let k = fills-done spelled w d after h e in
-            ap (take (w .bytes)) (h .output k) ∙ take-at spelled (drop (length spelled) d) (w .bytes) (sym (fills-count spelled w d after h k))
+            let k = lays-done spelled w d after h e in
+            ap (take (w .bytes)) (h .output k) ∙ take-at spelled (drop (length spelled) d) (w .bytes) (sym (lays-count spelled w d after h k))
 
         pub draft-standing : w .refusal ≡ 0 → touchDraft time l ≡ bytes (take (w .bytes) after)
         draft-standing e =
-            let k = fills-done spelled w d after h e in
+            let k = lays-done spelled w d after h e in
             draft-done (omega (arith, k, size, ap length spelled-is)) ∙ ap bytes (spelled-is ∙ sym (standing e))
 
         pub standing-long : w .refusal ≡ 0 → w .bytes ≡ length (take (w .bytes) after)
-        standing-long e = fills-count spelled w d after h (fills-done spelled w d after h e) ∙ ap length (sym (standing e))
+        standing-long e = lays-count spelled w d after h (lays-done spelled w d after h e) ∙ ap length (sym (standing e))

@@ -19,7 +19,7 @@ use Rattle.integers.specs.Integer.{writing, draft, limit}
 use Rattle.integers.proofs.Laws.{draft-bytes}
 use Rattle.messages.specs.Header.{header, headerBytes}
 use Rattle.messages.proofs.Laws.{header-long}
-use Rattle.writing.specs.Filling.{Fills, both}
+use Rattle.writing.specs.Filling.{Lays, both}
 
 -- there is room, or not
 pub data Room (n room : ℕ) : Type 0 where
@@ -34,14 +34,14 @@ room n m = go (leb n m) refl
     go false e = short (leb-false _ _ e)
 
 -- the bytes are known under another name
-pub fills-as : (s t : List ℕ) (w : Written) (before after : List ℕ) → s ≡ t → Fills s w before after → Fills t w before after
-fills-as s t w b a e h = rw e at h
+pub lays-as : (s t : List ℕ) (w : Written) (before after : List ℕ) → s ≡ t → Lays s w before after → Lays t w before after
+lays-as s t w b a e h = rw e at h
 
 -- a writer that refuses for want of room alone
-pub fills-writes : (s : List ℕ) (w : Written) (before after : List ℕ) → Writes (bytes s) w before after → Fills s w before after
-fills-writes s w b a h = go (room (length s) (length b))
+pub lays-writes : (s : List ℕ) (w : Written) (before after : List ℕ) → Writes (bytes s) w before after → Lays s w before after
+lays-writes s w b a h = go (room (length s) (length b))
   where
-    go : Room (length s) (length b) → Fills s w b a
+    go : Room (length s) (length b) → Lays s w b a
     go (enough k) =
         let d = writes-done s w b a h k in
         let o = d .output in
@@ -65,23 +65,23 @@ fills-writes s w b a h = go (room (length s) (length b))
         }
 
 -- nothing is always written
-pub fills-none : (d : List ℕ) → Fills [] (record { refusal = 0; bytes = 0 }) d d
-fills-none d = record { answer = λ r. refl; output = λ r. refl; full = λ r. absurd (omega (arith, r)); inside = omega arith; kept = refl }
+pub lays-none : (d : List ℕ) → Lays [] (record { refusal = 0; bytes = 0 }) d d
+lays-none d = record { answer = λ r. refl; output = λ r. refl; full = λ r. absurd (omega (arith, r)); inside = omega arith; kept = refl }
 
 -- a part that was written or not
-module _ (s : List ℕ) (w : Written) (before after : List ℕ) (h : Fills s w before after) where
-  pub fills-done : w .refusal ≡ 0 → length s ≤ length before
-  fills-done e = go (room (length s) (length before))
+module _ (s : List ℕ) (w : Written) (before after : List ℕ) (h : Lays s w before after) where
+  pub lays-done : w .refusal ≡ 0 → length s ≤ length before
+  lays-done e = go (room (length s) (length before))
     where
       go : Room (length s) (length before) → length s ≤ length before
       go (enough k) = k
       go (short k) = absurd (omega (arith, h .full k, e))
 
-  pub fills-count : length s ≤ length before → w .bytes ≡ length s
-  fills-count k = ap (λ (x : Written). x .bytes) (h .answer k)
+  pub lays-count : length s ≤ length before → w .bytes ≡ length s
+  lays-count k = ap (λ (x : Written). x .bytes) (h .answer k)
 
-  pub fills-refusal : length s ≤ length before → w .refusal ≡ 0
-  fills-refusal k = ap (λ (x : Written). x .refusal) (h .answer k)
+  pub lays-refusal : length s ≤ length before → w .refusal ≡ 0
+  lays-refusal k = ap (λ (x : Written). x .refusal) (h .answer k)
 
 -- what a part leaves of an output, as it is lent to the next
 pub tail-long : (d : List ℕ) (n : ℕ) → length (midOf n (length d - n) d) ≡ length d - n
@@ -91,11 +91,11 @@ pub back-long : (d l : List ℕ) (n : ℕ) → n ≤ length d → length l ≡ l
 back-long d l n h e = ap length (tail-back d l n) ∙ simp (length-append, length-take) (omega (arith, e, tail-long d n, h))
 
 -- the next part begins inside the output
-pub left-by : {s : List ℕ} {w : Written} {before after : List ℕ} → Fills s w before after → w .bytes ≤ length after
+pub left-by : {s : List ℕ} {w : Written} {before after : List ℕ} → Lays s w before after → w .bytes ≤ length after
 left-by h = omega (arith, h .inside, h .kept)
 
 -- TWO PARTS, THE SECOND THROUGH THE TAIL THAT THE FIRST LEFT
-module _ (s t d d₁ l : List ℕ) (v w : Written) (hv : Fills s v d d₁) (hw : Fills t w (midOf (v .bytes) (length d₁ - v .bytes) d₁) l) where
+module _ (s t d d₁ l : List ℕ) (v w : Written) (hv : Lays s v d d₁) (hw : Lays t w (midOf (v .bytes) (length d₁ - v .bytes) d₁) l) where
   lent : length (midOf (v .bytes) (length d₁ - v .bytes) d₁) ≡ length d - v .bytes
   lent = tail-long d₁ (v .bytes) ∙ ap (λ (n : ℕ). n - v .bytes) (hv .kept)
 
@@ -105,11 +105,11 @@ module _ (s t d d₁ l : List ℕ) (v w : Written) (hv : Fills s v d d₁) (hw :
   both-done : length (s ++ t) ≤ length d → (length s ≤ length d) × (length t ≤ length (midOf (v .bytes) (length d₁ - v .bytes) d₁))
   both-done k =
       let a = length-append s t in
-      let n = fills-count s v d d₁ hv (omega (arith, a, k)) in
+      let n = lays-count s v d d₁ hv (omega (arith, a, k)) in
       (omega (arith, a, k), omega (arith, a, k, n, lent))
 
-  pub fills-both : Fills (s ++ t) (both v w) d (putMid (v .bytes) (length d₁ - v .bytes) d₁ l)
-  fills-both =
+  pub lays-both : Lays (s ++ t) (both v w) d (putMid (v .bytes) (length d₁ - v .bytes) d₁ l)
+  lays-both =
       record {
         answer = λ k.
             let p = both-done k in
@@ -118,7 +118,7 @@ module _ (s t d d₁ l : List ℕ) (v w : Written) (hv : Fills s v d d₁) (hw :
             ap (λ (x : Written). both x w) a ∙ ap (λ (x : Written). both (record { refusal = 0; bytes = length s }) x) b ∙ ap (λ (n : ℕ). record { refusal = 0; bytes = n }) (sym (length-append s t));
         output = λ k.
             let p = both-done k in
-            wrote-second d d₁ l s t (v .bytes) (sym (fills-count s v d d₁ hv (p .0))) (hv .output (p .0)) (hw .output (p .1)) k;
+            wrote-second d d₁ l s t (v .bytes) (sym (lays-count s v d d₁ hv (p .0))) (hv .output (p .0)) (hw .output (p .1)) k;
         full = λ k. go k (room (length s) (length d));
         inside = both-room;
         kept = back-long d₁ l (v .bytes) (omega (arith, hv .inside, hv .kept)) (hw .kept) ∙ hv .kept;
@@ -126,38 +126,38 @@ module _ (s t d d₁ l : List ℕ) (v w : Written) (hv : Fills s v d d₁) (hw :
     where
       go : length d < length (s ++ t) → Room (length s) (length d) → both v w .refusal ≡ noRoom
       go k (enough r) =
-          let e = fills-refusal s v d d₁ hv r in
-          rw (eq-eqb _ _ e) (hw .full (omega (arith, lent, fills-count s v d d₁ hv r, length-append s t, k)))
+          let e = lays-refusal s v d d₁ hv r in
+          rw (eq-eqb _ _ e) (hw .full (omega (arith, lent, lays-count s v d d₁ hv r, length-append s t, k)))
       go k (short r) =
           let e = hv .full r in
           rw (ne-eqb (v .refusal) 0 (λ z. omega (arith, z, e))) e
 
 -- as code joins them, under the whole's own name
-pub fills-joined : {s t d d₁ l : List ℕ} {v w : Written} (r : Written) (u : List ℕ) → Fills s v d d₁ → Fills t w (midOf (v .bytes) (length d₁ - v .bytes) d₁) l → r ≡ both v w → s ++ t ≡ u
-    → Fills u r d (putMid (v .bytes) (length d₁ - v .bytes) d₁ l)
-fills-joined {s} {t} {d} {d₁} {l} {v} {w} r u hv hw e q = rw (← q, e) (fills-both s t d d₁ l v w hv hw)
+pub lays-joined : {s t d d₁ l : List ℕ} {v w : Written} (r : Written) (u : List ℕ) → Lays s v d d₁ → Lays t w (midOf (v .bytes) (length d₁ - v .bytes) d₁) l → r ≡ both v w → s ++ t ≡ u
+    → Lays u r d (putMid (v .bytes) (length d₁ - v .bytes) d₁ l)
+lays-joined {s} {t} {d} {d₁} {l} {v} {w} r u hv hw e q = rw (← q, e) (lays-both s t d d₁ l v w hv hw)
 
-pub joined-room : {s t d d₁ l : List ℕ} {v w : Written} → Fills s v d d₁ → Fills t w (midOf (v .bytes) (length d₁ - v .bytes) d₁) l → v .bytes + w .bytes ≤ length d
+pub joined-room : {s t d d₁ l : List ℕ} {v w : Written} → Lays s v d d₁ → Lays t w (midOf (v .bytes) (length d₁ - v .bytes) d₁) l → v .bytes + w .bytes ≤ length d
 joined-room {s} {t} {d} {d₁} {l} {v} {w} hv hw = both-room s t d d₁ l v w hv hw
 
 -- an integer that is in range
-pub fills-integer : (k g s m : ℕ) (w : Written) (before after : List ℕ) → m < limit k g → Writes (draft k g s m) w before after → Fills (writing k g s m) w before after
-fills-integer k g s m w b a h e = fills-writes (writing k g s m) w b a (rw (draft-bytes k g s m h) at e)
+pub lays-integer : (k g s m : ℕ) (w : Written) (before after : List ℕ) → m < limit k g → Writes (draft k g s m) w before after → Lays (writing k g s m) w before after
+lays-integer k g s m w b a h e = lays-writes (writing k g s m) w b a (rw (draft-bytes k g s m h) at e)
 
 -- a part that may be absent
-pub fills-there : (c : Bool) (s : List ℕ) (w : Written) (before after : List ℕ) → c ≡ true → Fills s w before after → Fills (cond c s []) w before after
-fills-there c s w b a e h = rw e h
+pub lays-there : (c : Bool) (s : List ℕ) (w : Written) (before after : List ℕ) → c ≡ true → Lays s w before after → Lays (cond c s []) w before after
+lays-there c s w b a e h = rw e h
 
-pub fills-absent : (c : Bool) (s : List ℕ) (w : Written) (d : List ℕ) → c ≡ false → w ≡ record { refusal = 0; bytes = 0 } → Fills (cond c s []) w d d
-fills-absent c s w d e h = rw (e, h) (fills-none d)
+pub lays-absent : (c : Bool) (s : List ℕ) (w : Written) (d : List ℕ) → c ≡ false → w ≡ record { refusal = 0; bytes = 0 } → Lays (cond c s []) w d d
+lays-absent c s w d e h = rw (e, h) (lays-none d)
 
 -- one byte
-pub fills-byte : (x : ℕ) (d : List ℕ) → 1 ≤ length d → Fills (x ∷ []) (record { refusal = 0; bytes = 1 }) d (set d 0 x)
-fills-byte x [] h = absurd (omega (arith, h))
-fills-byte x (y ∷ d) h = record { answer = λ r. refl; output = λ r. refl; full = λ r. absurd (omega (arith, r)); inside = omega arith; kept = refl }
+pub lays-byte : (x : ℕ) (d : List ℕ) → 1 ≤ length d → Lays (x ∷ []) (record { refusal = 0; bytes = 1 }) d (set d 0 x)
+lays-byte x [] h = absurd (omega (arith, h))
+lays-byte x (y ∷ d) h = record { answer = λ r. refl; output = λ r. refl; full = λ r. absurd (omega (arith, r)); inside = omega arith; kept = refl }
 
-pub fills-no-byte : (x : ℕ) (w : Written) (d : List ℕ) → length d < 1 → w ≡ record { refusal = noRoom; bytes = 0 } → Fills (x ∷ []) w d d
-fills-no-byte x w d h e =
+pub lays-no-byte : (x : ℕ) (w : Written) (d : List ℕ) → length d < 1 → w ≡ record { refusal = noRoom; bytes = 0 } → Lays (x ∷ []) w d d
+lays-no-byte x w d h e =
     record {
       answer = λ r. absurd (omega (arith, r, h));
       output = λ r. absurd (omega (arith, r, h));
@@ -187,7 +187,7 @@ module _ {whole rest d₀ d : List ℕ} {at : ℕ} (p : Partly whole rest d₀ d
   partly-inside = omega (arith, p .room, partly-long)
 
 -- all is written
-pub partly-all : {whole d₀ d : List ℕ} {at : ℕ} → Partly whole [] d₀ d at → Fills whole (record { refusal = 0; bytes = at }) d₀ d
+pub partly-all : {whole d₀ d : List ℕ} {at : ℕ} → Partly whole [] d₀ d at → Lays whole (record { refusal = 0; bytes = at }) d₀ d
 partly-all {whole} {d₀} {d} {at} p =
     let e : whole ≡ p .done = p .split ∙ append-nil (p .done) in
     let n : at ≡ length whole = sym (p .count) ∙ ap length (sym e) in
@@ -199,12 +199,12 @@ partly-all {whole} {d₀} {d} {at} p =
       kept = partly-long p;
     }
 
-module _ (s rest : List ℕ) {whole d₀ d : List ℕ} {at : ℕ} (p : Partly whole (s ++ rest) d₀ d at) {w : Written} {l : List ℕ} (h : Fills s w (midOf at (length d - at) d) l) where
+module _ (s rest : List ℕ) {whole d₀ d : List ℕ} {at : ℕ} (p : Partly whole (s ++ rest) d₀ d at) {w : Written} {l : List ℕ} (h : Lays s w (midOf at (length d - at) d) l) where
   -- one part more
   pub partly-more : w .refusal ≡ 0 → Partly whole rest d₀ (putMid at (length d - at) d l) (at + w .bytes)
   partly-more e =
-      let k = fills-done s w (midOf at (length d - at) d) l h e in
-      let n = fills-count s w (midOf at (length d - at) d) l h k in
+      let k = lays-done s w (midOf at (length d - at) d) l h e in
+      let n = lays-count s w (midOf at (length d - at) d) l h k in
       let a = length-append (p .done) s in
       let r : at + w .bytes ≤ length d₀ = omega (arith, k, n, tail-long d at, partly-long p, p .room) in
       record {
@@ -216,7 +216,7 @@ module _ (s rest : List ℕ) {whole d₀ d : List ℕ} {at : ℕ} (p : Partly wh
       }
 
   -- no room for it
-  pub partly-stop : (w .refusal ≡ 0 → ⊥) → Fills whole w d₀ (putMid at (length d - at) d l)
+  pub partly-stop : (w .refusal ≡ 0 → ⊥) → Lays whole w d₀ (putMid at (length d - at) d l)
   partly-stop e =
       let b : length (midOf at (length d - at) d) < length s = go (room (length s) (length (midOf at (length d - at) d))) in
       let long : length whole ≡ at + (length s + length rest) =
@@ -231,12 +231,12 @@ module _ (s rest : List ℕ) {whole d₀ d : List ℕ} {at : ℕ} (p : Partly wh
       }
     where
       go : Room (length s) (length (midOf at (length d - at) d)) → length (midOf at (length d - at) d) < length s
-      go (enough k) = absurd (e (fills-refusal s w (midOf at (length d - at) d) l h k))
+      go (enough k) = absurd (e (lays-refusal s w (midOf at (length d - at) d) l h k))
       go (short k) = k
 
 -- ---- a header over the front, once the body behind it is written
 
-module _ (e : ℕ) (s d l d₂ : List ℕ) (w v : Written) (h : Fills s w (midOf headerBytes (length d - headerBytes) d) l) (k : headerBytes ≤ length d)
+module _ (e : ℕ) (s d l d₂ : List ℕ) (w v : Written) (h : Lays s w (midOf headerBytes (length d - headerBytes) d) l) (k : headerBytes ≤ length d)
     (x : Writes (bytes (header e (headerBytes + w .bytes))) v (putMid headerBytes (length d - headerBytes) d l) d₂) where
   under : length (putMid headerBytes (length d - headerBytes) d l) ≡ length d
   under = back-long d l headerBytes k (h .kept)
@@ -256,15 +256,15 @@ module _ (e : ℕ) (s d l d₂ : List ℕ) (w v : Written) (h : Fills s w (midOf
       rw (head-long n, drop-at (take headerBytes d) (laid (drop headerBytes d) s) headerBytes (length-take-le headerBytes d k), length-append (header e n) s, head-long n, drop-drop (length s) headerBytes d)
       (sym (append-assoc (header e n) s (drop (headerBytes + length s) d)))
 
-  pub fills-message : Fills (header e (headerBytes + length s) ++ s) (record { refusal = w .refusal; bytes = headerBytes + w .bytes }) d d₂
-  fills-message =
+  pub lays-message : Lays (header e (headerBytes + length s) ++ s) (record { refusal = w .refusal; bytes = headerBytes + w .bytes }) d d₂
+  lays-message =
       record {
         answer = λ r.
             let a = h .answer (fits r) in
             ap (λ (y : Written). record { refusal = y .refusal; bytes = headerBytes + y .bytes }) a
             ∙ ap (λ (n : ℕ). record { refusal = 0; bytes = n }) (sym (header-long e (headerBytes + length s) s));
         output = λ r.
-            let n = fills-count s w _ l h (fits r) in
+            let n = lays-count s w _ l h (fits r) in
             over .output ∙ rw (n, h .output (fits r), put-back d s headerBytes) (laid-over (headerBytes + length s));
         full = λ r. h .full (omega (arith, r, header-long e (headerBytes + length s) s, tail-long d headerBytes, k));
         inside = omega (arith, h .inside, tail-long d headerBytes, k);

@@ -7,10 +7,8 @@ use mathlib.Core.List.{List, [], _∷_}
 use native.Mathlib.Omega.{arith}
 use borrow.Author.Tests.{lt-ltb, le-leb}
 use lib.Dec.{leb}
-use lib.IntN.{ℤ, pos, negsuc, natAbs}
 use Rattle.paper.specs.Refusals.{badRange}
 use Rattle.formats.specs.Format.{Each, HoldsWhen, such}
-use Rattle.integers.specs.Answer.{size}
 use Rattle.integers.specs.Integer.{limit}
 use Rattle.fields.specs.Integers.{strict}
 use Rattle.house.specs.Fits.{HeadFits, InRange, noSides}
@@ -46,15 +44,10 @@ frames-pack = each-held (λ b. frame strict b .Holds) (λ b. frameRecords .Holds
 
 -- ---- and what records hold, a message holds
 
--- a signed value's magnitude
-pub size-abs : (z : ℤ) (n : ℕ) → natAbs z ≤ n → size z < suc n
-size-abs (pos m) n h = omega arith
-size-abs (negsuc m) n h = omega arith
-
 sides-held : (there : Bool) (c : Contact) → InRange c → (there ≡ false → c .sides ≡ noSides) → HoldsWhen there (sides strict .Holds) noSides (c .sides)
 unfolding sides
 sides-held true c r a =
-    (size-abs (c .sides .left) _ (r .left), (size-abs (c .sides .top) _ (r .top), (size-abs (c .sides .right) _ (r .right), (size-abs (c .sides .bottom) _ (r .bottom), refl))))
+    (omega (arith, r .left), (omega (arith, r .top), (omega (arith, r .right), (omega (arith, r .bottom), refl))))
 sides-held false c r a = a refl
 
 number-held : (there : Bool) (most v : ℕ) → v ≤ most → most < limit 2 0 → (there ≡ false → v ≡ 0) → HoldsWhen there (such (strict .u4) (λ v. leb v most) badRange .Holds) 0 v
@@ -75,7 +68,7 @@ contact-writes c h =
       (
         (omega (arith, pr), lt-ltb _ _ pr),
         (
-          (size-abs (c .place .x) _ (r .x), (size-abs (c .place .y) _ (r .y), refl)),
+          (omega (arith, r .x), (omega (arith, r .y), refl)),
           (
             (omega (arith, fl), r .flags),
             ((s, (o, (p, refl))), refl),

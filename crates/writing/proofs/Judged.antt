@@ -13,8 +13,7 @@ use Rattle.formats.specs.Format.{Got, got, bad, andThen, readSeries}
 use Rattle.formats.specs.Answer.{skipped}
 use Rattle.formats.proofs.Laws.{never, more-got}
 use Rattle.formats.proofs.Steps.{skipped-made}
-use Rattle.house.specs.Layout.{kindOf, contactOf, recordOf, head, touched}
-use Rattle.house.specs.Layout as layout
+use Rattle.house.specs.Layout.{kindOf, headIn, contactOf, recordOf, head, touched}
 use Rattle.house.specs.WellFormed.{wellFormed}
 use Rattle.house.specs.declared.Head.{Head}
 use Rattle.house.specs.declared.Contact.{Contact}
@@ -60,8 +59,8 @@ pub frame-end : (l : List ℕ) → stands head l ≡ true → skipped (frameReco
 unfolding frameRecords
 frame-end l h =
     let s = stood head l h in
-    let n : contactsAfter (recordOf l) ≡ layout.headOf (take 21 l) .count = ap contactsAfter (record-head l (s .long) (s .kind)) in
-    rw (h, n) (skipped-made (λ cs. record { offset = layout.headOf (take 21 l) .offset; contacts = cs }) (readSeries contactBy false (layout.headOf (take 21 l) .count) (drop 21 l)))
+    let n : contactsAfter (recordOf l) ≡ headIn (take 21 l) .count = ap contactsAfter (record-head l (s .long) (s .kind)) in
+    rw (h, n) (skipped-made (λ cs. record { offset = headIn (take 21 l) .offset; contacts = cs }) (readSeries contactBy false (headIn (take 21 l) .count) (drop 21 l)))
 
 -- what is read of a list is no longer than it
 contacts-shorter : (n : ℕ) (l : List ℕ) (cs : List Contact) (t : List ℕ) → readSeries contactBy false n l ≡ got cs t → length t ≤ length l
@@ -84,7 +83,7 @@ frame-shorter l f t e = go (headRecord .read l) refl e
         on (bad x) k e = never x f t e
         on (got cs v) k e =
             let z : v ≡ t = cc in
-            let p = passed (stands head l) (layout.headOf (take 21 l)) h (drop 21 l) u w in
+            let p = passed (stands head l) (headIn (take 21 l)) h (drop 21 l) u w in
             let s = stood head l (p .0) in
             omega (arith, contacts-shorter (h .count) u cs v k, ap length z, ap length (p .2), length-drop 21 l, s .long)
 

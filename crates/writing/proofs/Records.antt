@@ -14,8 +14,7 @@ use Rattle.digits.specs.Digits.{Bytes}
 use Rattle.digits.proofs.Laws.{bytes-drop}
 use Rattle.formats.specs.Format.{Got, got, bad, andThen, Format, writeSeries, Each}
 use Rattle.formats.proofs.Laws.{Law, never, done-law, field-law, times-law, each-length}
-use Rattle.house.specs.Layout.{headBytes, contactBytes, kindOf, contactOf, recordOf, bytesOf, head, touched}
-use Rattle.house.specs.Layout as layout
+use Rattle.house.specs.Layout.{headBytes, contactBytes, kindOf, headIn, contactOf, recordOf, bytesOf, head, touched}
 use Rattle.house.specs.WellFormed.{wellFormed, kindWell}
 use Rattle.house.specs.declared.Head.{Head}
 use Rattle.house.specs.declared.Contact.{Contact}
@@ -55,7 +54,7 @@ stood k l h =
     let b = both _ _ h in
     record { well = b .0; kind = eqb-true _ _ (b .1); long = well-long l (front l) (b .0) }
 
-head-again : (l : List ℕ) → Stands head l → Bytes l → headBytes (layout.headOf (take 21 l)) ≡ take 21 l
+head-again : (l : List ℕ) → Stands head l → Bytes l → headBytes (headIn (take 21 l)) ≡ take 21 l
 unfolding bytesOf
 head-again l s b = sym (ap bytesOf (record-head l (s .long) (s .kind))) ∙ bytes-of-record l (s .well) b
 
@@ -67,10 +66,10 @@ head-law =
           let d = drop-at (headBytes h) t 21 (length-head h) in
           rw (head-well h t, e, eq-eqb _ _ (kind-head h), d, head-back h f);
       sound = λ l h t b e.
-          let p = passed (stands head l) (layout.headOf (take 21 l)) h (drop 21 l) t e in
+          let p = passed (stands head l) (headIn (take 21 l)) h (drop 21 l) t e in
           (rw (p .1) at (head-fits (take 21 l)), rw (p .2) at (bytes-drop 21 l b));
       exact = λ x l h t b e.
-          let p = passed (stands head l) (layout.headOf (take 21 l)) h (drop 21 l) t e in
+          let p = passed (stands head l) (headIn (take 21 l)) h (drop 21 l) t e in
           let a = head-again l (stood head l (p .0)) b in
           rw (← p .1, ← p .2, a) (sym (take-append-drop 21 l));
     }

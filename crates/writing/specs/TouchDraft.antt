@@ -16,7 +16,7 @@ use Rattle.messages.specs.Header as event
 use Rattle.touch.specs.Limits.{mostFrames}
 use Rattle.house.specs.declared.Contact.{Contact}
 use Rattle.framing.specs.Frame.{Frame}
-use Rattle.touch.specs.Touch.{Touch, touch}
+use Rattle.touch.specs.Touch.{touch}
 use Rattle.frame_records.specs.Records.{framesIn}
 
 -- the message of a time and frames

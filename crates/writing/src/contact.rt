@@ -1,13 +1,11 @@
 // A contact, field by field.
-ghost use mathlib.Core.Path.{_≡_};
 ghost use mathlib.Core.Bool.{cond};
 ghost use mathlib.Core.List.{[], _++_};
-ghost use Prim.Native.Nat.{_<_};
 ghost use Rattle.formats.specs.Format.{byte};
 ghost use Rattle.fields.specs.Integers.{strict};
 ghost use Rattle.house.specs.WellFormed.{has};
 ghost use Rattle.touch.specs.Touch.{point, contact, optional, optionalOf};
-ghost use Rattle.writing.specs.Filling.{Fills};
+ghost use Rattle.writing.specs.Filling.{Lays};
 use crate::parts::join;
 use crate::parts::write_byte;
 use crate::parts::write_number;
@@ -15,34 +13,27 @@ use crate::parts::write_point;
 use crate::parts::write_sides;
 use house::Contact;
 use house::Point;
+use house::has_field;
 use slices::Written;
 
 // The bits of fieldsPresent.
-const SIDES: u8 = 1;
+const SIDES: u16 = 1;
 
-const ORIENTATION: u8 = 2;
+const ORIENTATION: u16 = 2;
 
-const PRESSURE: u8 = 4;
-
-// Whether fieldsPresent has a bit.
-fn has_bit(present: u8, bit: u8) -> bool
-    requires { ⌜ 0 < bit ⌝ }
-    ensures { λ r. ⌜ r ≡ has bit present ⌝ }
-{
-    present / bit % 2 == 1
-}
+const PRESSURE: u16 = 4;
 
 // Orientation and pressure, each where fieldsPresent says that it is there.
 fn write_numbers(out: &mut [u8], present: u8, turn: u16, press: u16) -> Written
-    ensures { λ r. ⌜ Fills (cond (has 2 present) (strict .u4 .write turn) [] ++ cond (has 4 present) (strict .u4 .write press) []) r (now (out .entry)) (now (out .exit)) ⌝ }
+    ensures { λ r. ⌜ Lays (cond (has 2 present) (strict .u4 .write turn) [] ++ cond (has 4 present) (strict .u4 .write press) []) r (now (out .entry)) (now (out .exit)) ⌝ }
 {
-    let first = write_number(out, has_bit(present, ORIENTATION), turn as u32);
+    let first = write_number(out, has_field(present as u16, ORIENTATION), turn as u32);
     let at_press = first.bytes;
     join(
         first,
         write_number(
             &mut out[at_press..],
-            has_bit(present, PRESSURE),
+            has_field(present as u16, PRESSURE),
             press as u32,
         ),
     )
@@ -51,9 +42,9 @@ fn write_numbers(out: &mut [u8], present: u8, turn: u16, press: u16) -> Written
 // The fields that fieldsPresent says are there.
 fn write_optional(out: &mut [u8], touch: Contact) -> Written
     requires { ⌜ optional strict (touch .present) .Holds (optionalOf touch) ⌝ }
-    ensures { λ r. ⌜ Fills (optional strict (touch .present) .write (optionalOf touch)) r (now (out .entry)) (now (out .exit)) ⌝ }
+    ensures { λ r. ⌜ Lays (optional strict (touch .present) .write (optionalOf touch)) r (now (out .entry)) (now (out .exit)) ⌝ }
 {
-    let sides = write_sides(out, has_bit(touch.present, SIDES), touch.sides);
+    let sides = write_sides(out, has_field(touch.present as u16, SIDES), touch.sides);
     let at_turn = sides.bytes;
     join(
         sides,
@@ -68,7 +59,7 @@ fn write_optional(out: &mut [u8], touch: Contact) -> Written
 
 // The id and fieldsPresent.
 fn write_lead(out: &mut [u8], id: u8, present: u8) -> Written
-    ensures { λ r. ⌜ Fills (byte .write id ++ strict .u2 .write present) r (now (out .entry)) (now (out .exit)) ⌝ }
+    ensures { λ r. ⌜ Lays (byte .write id ++ strict .u2 .write present) r (now (out .entry)) (now (out .exit)) ⌝ }
 {
     let first = write_byte(out, id);
     let at_present = first.bytes;
@@ -81,7 +72,7 @@ fn write_lead(out: &mut [u8], id: u8, present: u8) -> Written
 // The place and contactFlags.
 fn write_place(out: &mut [u8], place: Point, flags: u8) -> Written
     requires { ⌜ point strict .Holds place ⌝ }
-    ensures { λ r. ⌜ Fills (point strict .write place ++ strict .u4 .write flags) r (now (out .entry)) (now (out .exit)) ⌝ }
+    ensures { λ r. ⌜ Lays (point strict .write place ++ strict .u4 .write flags) r (now (out .entry)) (now (out .exit)) ⌝ }
 {
     let first = write_point(out, place);
     let at_flags = first.bytes;
@@ -94,7 +85,7 @@ fn write_place(out: &mut [u8], place: Point, flags: u8) -> Written
 // A contact.
 pub(crate) fn write_contact(out: &mut [u8], touch: Contact) -> Written
     requires { ⌜ contact strict .Holds touch ⌝ }
-    ensures { λ r. ⌜ Fills (contact strict .write touch) r (now (out .entry)) (now (out .exit)) ⌝ }
+    ensures { λ r. ⌜ Lays (contact strict .write touch) r (now (out .entry)) (now (out .exit)) ⌝ }
 {
     let lead = write_lead(out, touch.id, touch.present);
     let at_place = lead.bytes;

@@ -1,7 +1,7 @@
 -- `house::read::read_head` meets its contract: each field is what `get` gives.
 -- Assumes nothing.
 use Rattle.house.specs.Fields.{unpacked}
-use Rattle.house.specs.Layout.{headOf}
+use Rattle.house.specs.Layout.{headIn}
 use borrow.Author.Needs.{needs}
 use Rattle.house.proofs.read.read_head.Statement.{statement}
 use Rattle.house.proofs.read.read_head.Tie as tie
@@ -16,7 +16,7 @@ get-requires-2 : tie.Need-get-requires-2
 get-requires-2 c κs = search needs
 
 returns : tie.Need-returns
-unfolding unpacked headOf
+unfolding unpacked headIn
 returns c = λ i. record { count = (c .before .get .ensures .0) i; offset = record { 0 = (c .get2 .ensures .0) i } }
 
 pub read-head-spec : {M : Type 1} → statement M

@@ -27,6 +27,9 @@ is-listed-requires c κs = search needs
 is-point-well-requires : tie.Need-is-point-well-requires
 is-point-well-requires c κs = search needs
 
+cast-present : tie.Need-cast-present
+cast-present c = search needs
+
 has-field-requires : tie.Need-has-field-requires
 has-field-requires c κs = search needs
 
@@ -50,7 +53,7 @@ unfolding contactWell pointWell
 returns c =
     let o = c .before .before in
     let s = o .before .before in
-    let p = s .before .before in
+    let p = s .before .before .before in
     let f = p .before in
     let a = f .before .before .before .before .args .contact in
     let there : ℕ → Bool = λ (bit : ℕ). has bit (a .present) in
@@ -67,6 +70,7 @@ is-contact-well-spec =
     cast-is-listed
     is-listed-requires
     is-point-well-requires
+    cast-present
     has-field-requires
     are-sides-well-requires
     has-field-requires-2

@@ -3,7 +3,7 @@
 use mathlib.Core.Path.{ap, _∙_}
 use native.Mathlib.Omega.{arith}
 use borrow.Author.Needs.{needs}
-use Rattle.integers.specs.Integer.{strict, only}
+use Rattle.integers.specs.Integer.{decodedOnly, only}
 use Rattle.integers.proofs.ByteOne.{shares}
 use Rattle.integers.proofs.found.find.Statement.{statement}
 use Rattle.integers.proofs.found.find.Tie as tie
@@ -30,7 +30,7 @@ only-form-requires : tie.Need-only-form-requires
 only-form-requires c κs = search needs
 
 returns : tie.Need-returns
-unfolding strict
+unfolding decodedOnly
 returns c =
     let d = c .before in
     c .only-form .ensures

@@ -11,10 +11,10 @@ use Rattle.integers.proofs.write.put.Statement.{statement}
 use Rattle.integers.proofs.write.put.Tie as tie
 
 -- byte one is a byte
-top : (c : tie.After-fill) → Top (c .before .before .before .args .tops) (c .before .before .before .args .signs) (c .before .before .before .args .c) (c .before .before .before .args .s) (c .fill .result)
+top : (c : tie.After-fill) → Top (c .before .before .before .args .t) (c .before .before .before .args .q) (c .before .before .before .args .c) (c .before .before .before .args .s) (c .fill .result)
 top c =
     let s = c .before .before .before in
-    top-byte (s .args .tops) (s .args .signs) (s .args .c) (s .args .s) (c .fill .result) (s .pre .0)
+    top-byte (s .args .t) (s .args .q) (s .args .c) (s .args .s) (c .fill .result) (s .pre .0)
     (rw (c .fill .ensures .0) (div-lt-iff-lt-mul (pow-pos _) .1 (s .pre .1)))
     (s .pre .2)
 
@@ -49,7 +49,7 @@ returns : tie.Need-returns
 returns c =
     let d = c .before .before in
     let a = d .before .before .before .args in
-    rw (d .fill .ensures .1, d .fill .ensures .0) (placed (a .tops) (a .signs) (a .c) (a .s) (a .m) (now (a .out)) (omega arith))
+    rw (d .fill .ensures .1, d .fill .ensures .0) (placed (a .t) (a .q) (a .c) (a .s) (a .m) (now (a .out)) (omega arith))
 
 pub put-spec : {M : Type 1} → statement M
 put-spec =

@@ -3,11 +3,11 @@
 use Prim.Native.Nat.{ℕ, suc, _^_, _<_}
 use mathlib.Core.Path.{_≡_, refl, sym, ap}
 use native.Mathlib.Omega.{arith}
-use lib.IntN.{pos, negsuc}
+use lib.IntN.{pos, negsuc, natAbs}
 use mir.Syntax.{w32, w64}
 use mir.Val.{SFits, hbits}
 use mir.Facts.{toZ-ofZ, sfits-widen}
-use Rattle.integers.specs.Answer.{minus, size}
+use Rattle.integers.specs.Answer.{minus}
 use Rattle.integers.proofs.Signed.{is-below, is-above, cast-fits, opposite-fits, opposite-back}
 use Rattle.integers.proofs.write.split.Statement.{statement}
 use Rattle.integers.proofs.write.split.Tie as tie
@@ -38,7 +38,7 @@ cast-t5 c = rw (opposite-back w32 w64 _ (c .before .fits .z) (wide (c .before)) 
 returns : tie.Need-returns
 returns c = (
   sym (ap minus (low c .1)),
-  rw (opposite-back w32 w64 _ (c .before .fits .z) (wide (c .before)) (low c .0) (low c .1) (small c)) (sym (ap size (low c .1))),
+  rw (opposite-back w32 w64 _ (c .before .fits .z) (wide (c .before)) (low c .0) (low c .1) (small c)) (sym (ap natAbs (low c .1))),
 )
 
 cast-t6 : tie.Need-cast-t6

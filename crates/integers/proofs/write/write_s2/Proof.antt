@@ -6,7 +6,8 @@ use borrow.Author.Needs.{needs}
 use mir.Syntax.{w16, w32}
 use mir.Val.{SFits}
 use mir.Facts.{sfits-widen}
-use Rattle.integers.specs.Answer.{minus, size}
+use lib.IntN.{natAbs}
+use Rattle.integers.specs.Answer.{minus}
 use Rattle.integers.proofs.Signed.{minus-small, cast-fits, cast-same}
 use Rattle.integers.proofs.write.write_s2.Statement.{statement}
 use Rattle.integers.proofs.write.write_s2.Tie as tie
@@ -14,7 +15,7 @@ use Rattle.integers.proofs.write.write_s2.Tie as tie
 wide : (c : tie.Start) → SFits w32 (c .args .value)
 wide c = sfits-widen tt (c .fits .value)
 
-split-of : (c : tie.After-split) → (c .split .result .minus ≡ minus (c .before .before .args .value)) × (c .split .result .size ≡ size (c .before .before .args .value))
+split-of : (c : tie.After-split) → (c .split .result .minus ≡ minus (c .before .before .args .value)) × (c .split .result .size ≡ natAbs (c .before .before .args .value))
 split-of c = rw (cast-same w16 w32 _ (c .before .before .fits .value) (wide (c .before .before))) at (c .split .ensures)
 
 cast-split : tie.Need-cast-split

@@ -4,12 +4,13 @@ use mathlib.Core.Path.{_≡_}
 use native.Mathlib.Omega.{arith}
 use borrow.Author.Needs.{needs}
 use mir.Facts.{toZ-ofZ}
-use Rattle.integers.specs.Answer.{minus, size}
+use lib.IntN.{natAbs}
+use Rattle.integers.specs.Answer.{minus}
 use Rattle.integers.proofs.Signed.{minus-small}
 use Rattle.integers.proofs.write.write_s4.Statement.{statement}
 use Rattle.integers.proofs.write.write_s4.Tie as tie
 
-split-of : (c : tie.After-split) → (c .split .result .minus ≡ minus (c .before .before .args .value)) × (c .split .result .size ≡ size (c .before .before .args .value))
+split-of : (c : tie.After-split) → (c .split .result .minus ≡ minus (c .before .before .args .value)) × (c .split .result .size ≡ natAbs (c .before .before .args .value))
 split-of c = rw (toZ-ofZ (c .before .before .fits .value)) at (c .split .ensures)
 
 split-requires : tie.Need-split-requires

@@ -42,20 +42,20 @@ at-end c = at-press (up3 c) + c .before .got-press .given .0 .1 .0
 sides-read : (c : tie.After-known-told) → Stepped (when (has 1 (there c)) (sides strict) noSides) (lent c) 0 (c .before .got-sides .given .0 .0) (at-turn c)
 sides-read c =
     let r = c .before .before .before in
-    first (when (has 1 (there c)) (sides strict) noSides) (lent c) _ _ (rw (c .before .got-sides .given .1, r .before .has-bit .ensures) at (r .read-sides .ensures))
+    first (when (has 1 (there c)) (sides strict) noSides) (lent c) _ _ (rw (c .before .got-sides .given .1, r .before .has-field .ensures) at (r .read-sides .ensures))
 
 turn-read : (c : tie.After-known-told2) → Stepped (when (has 2 (there (up2 c))) (orientation strict) 0) (lent (up2 c)) (at-turn (up2 c)) (c .before .got-turn .given .0 .0) (at-press c)
 turn-read c =
     let r = c .before .before .before in
-    step (when (has 2 (there (up2 c))) (orientation strict) 0) (lent (up2 c)) (at-turn (up2 c)) _ _ (sides-read (up2 c) .ends) (rw (c .before .got-turn .given .1, r .before .has-bit2 .ensures) at (r .read-up-to .ensures))
+    step (when (has 2 (there (up2 c))) (orientation strict) 0) (lent (up2 c)) (at-turn (up2 c)) _ _ (sides-read (up2 c) .ends) (rw (c .before .got-turn .given .1, r .before .has-field2 .ensures) at (r .read-up-to .ensures))
 
 press-read : (c : tie.After-known-told3) → Stepped (when (has 4 (there (up2 (up3 c)))) (pressure strict) 0) (lent (up2 (up3 c))) (at-press (up3 c)) (c .before .got-press .given .0 .0) (at-end c)
 press-read c =
     let r = c .before .before .before in
-    step (when (has 4 (there (up2 (up3 c)))) (pressure strict) 0) (lent (up2 (up3 c))) (at-press (up3 c)) _ _ (turn-read (up3 c) .ends) (rw (c .before .got-press .given .1, r .before .has-bit3 .ensures) at (r .read-up-to2 .ensures))
+    step (when (has 4 (there (up2 (up3 c)))) (pressure strict) 0) (lent (up2 (up3 c))) (at-press (up3 c)) _ _ (turn-read (up3 c) .ends) (rw (c .before .got-press .given .1, r .before .has-field3 .ensures) at (r .read-up-to2 .ensures))
 
-has-bit-requires : tie.Need-has-bit-requires
-has-bit-requires c κs = search needs
+has-field-requires : tie.Need-has-field-requires
+has-field-requires c κs = search needs
 
 read-sides-requires : tie.Need-read-sides-requires
 read-sides-requires c κs = search needs
@@ -74,7 +74,7 @@ unfolding optional
 returns c =
     let t = c .before .enum-told .given .1 in
     let r = c .before .before .before in
-    let w = rw (t, r .before .has-bit .ensures) at (r .read-sides .ensures) in
+    let w = rw (t, r .before .has-field .ensures) at (r .read-sides .ensures) in
     record { same = rw (c .refusal .ensures, t, sym (w .same)); inside = omega arith }
 
 sub-read-up-to : tie.Need-sub-read-up-to
@@ -86,8 +86,8 @@ part-read-up-to-start c = sides-read c .ends
 part-read-up-to-end : tie.Need-part-read-up-to-end
 part-read-up-to-end c = search needs
 
-has-bit-requires-2 : tie.Need-has-bit-requires-2
-has-bit-requires-2 c κs = search needs
+has-field-requires-2 : tie.Need-has-field-requires-2
+has-field-requires-2 c κs = search needs
 
 read-up-to-requires : tie.Need-read-up-to-requires
 read-up-to-requires c κs = search needs
@@ -107,7 +107,7 @@ returns-2 c =
     let t = c .before .enum-told2 .given .1 in
     let r = c .before .before .before in
     let k = r .before .before .before in
-    let b = stop (when (has 2 (there k)) (orientation strict) 0) (lent k) (at-turn k) _ _ (rw (t, r .before .has-bit2 .ensures) at (r .read-up-to .ensures)) in
+    let b = stop (when (has 2 (there k)) (orientation strict) 0) (lent k) (at-turn k) _ _ (rw (t, r .before .has-field2 .ensures) at (r .read-up-to .ensures)) in
     record { same = rw (c .refusal2 .ensures, t, sides-read k .reads, b); inside = omega arith }
 
 add-at-press : tie.Need-add-at-press
@@ -122,8 +122,8 @@ part-read-up-to-start-2 c = turn-read c .ends
 part-read-up-to-end-2 : tie.Need-part-read-up-to-end-2
 part-read-up-to-end-2 c = search needs
 
-has-bit-requires-3 : tie.Need-has-bit-requires-3
-has-bit-requires-3 c κs = search needs
+has-field-requires-3 : tie.Need-has-field-requires-3
+has-field-requires-3 c κs = search needs
 
 read-up-to-requires-2 : tie.Need-read-up-to-requires-2
 read-up-to-requires-2 c κs = search needs
@@ -143,7 +143,7 @@ returns-3 c =
     let t = c .before .enum-told3 .given .1 in
     let r = c .before .before .before in
     let k = r .before .before .before in
-    let b = stop (when (has 4 (there (up2 k))) (pressure strict) 0) (lent (up2 k)) (at-press k) _ _ (rw (t, r .before .has-bit3 .ensures) at (r .read-up-to2 .ensures)) in
+    let b = stop (when (has 4 (there (up2 k))) (pressure strict) 0) (lent (up2 k)) (at-press k) _ _ (rw (t, r .before .has-field3 .ensures) at (r .read-up-to2 .ensures)) in
     record { same = rw (c .refusal3 .ensures, t, sides-read (up2 k) .reads, turn-read k .reads, b); inside = omega arith }
 
 cast-t25 : tie.Need-cast-t25
@@ -171,7 +171,7 @@ pub read-optional-spec : {M : Type 1} → statement M
 read-optional-spec =
     tie.close
     (tie.spec
-    has-bit-requires
+    has-field-requires
     read-sides-requires
     enum-known-got-sides
     enum-told
@@ -180,7 +180,7 @@ read-optional-spec =
     sub-read-up-to
     part-read-up-to-start
     part-read-up-to-end
-    has-bit-requires-2
+    has-field-requires-2
     read-up-to-requires
     enum-known-got-turn
     enum-told-2
@@ -190,7 +190,7 @@ read-optional-spec =
     sub-read-up-to-2
     part-read-up-to-start-2
     part-read-up-to-end-2
-    has-bit-requires-3
+    has-field-requires-3
     read-up-to-requires-2
     enum-known-got-press
     enum-told-3

@@ -9,19 +9,19 @@ use Rattle.formats.specs.Format.{byte}
 use Rattle.fields.specs.Integers.{strict}
 use mathlib.Core.List.{_++_, append-nil, append-assoc}
 use Rattle.touch.specs.Touch.{point, contact}
-use Rattle.writing.specs.Filling.{Fills}
-use Rattle.writing.proofs.Filling.{left-by, fills-joined}
+use Rattle.writing.specs.Filling.{Lays}
+use Rattle.writing.proofs.Filling.{left-by, lays-joined}
 use borrow.Author.Needs.{needs}
 use Rattle.writing.proofs.contact.write_contact.Statement.{statement}
 use Rattle.writing.proofs.contact.write_contact.Tie as tie
 
 -- all but the optional fields
 placed : (c : tie.After-join) → let w = c .before .before .before in let v = w .before .before .before .before in let a = v .before .before .before .args in
-    Fills ((byte .write (a .touch .id) ++ strict .u2 .write (a .touch .present)) ++ (point strict .write (a .touch .place) ++ strict .u4 .write (a .touch .flags)))
+    Lays ((byte .write (a .touch .id) ++ strict .u2 .write (a .touch .present)) ++ (point strict .write (a .touch .place) ++ strict .u4 .write (a .touch .flags)))
     (c .join .result) (now (a .out)) (putMid (v .write-lead .result .bytes) (length (v .write-lead .last .0) - v .write-lead .result .bytes) (v .write-lead .last .0) (w .write-place .last .0))
 placed c =
     let w = c .before .before .before in
-    fills-joined _ _ (w .before .before .before .before .write-lead .ensures) (w .write-place .ensures) (c .join .ensures) refl
+    lays-joined _ _ (w .before .before .before .before .write-lead .ensures) (w .write-place .ensures) (c .join .ensures) refl
 
 write-lead-requires : tie.Need-write-lead-requires
 write-lead-requires c κs = search needs
@@ -65,7 +65,7 @@ returns : tie.Need-returns
 unfolding contact
 returns c =
     let w = c .before .before .before in
-    fills-joined _ _ (placed (w .before .before)) (w .write-optional .ensures) (c .join2 .ensures) (simp (append-assoc, append-nil))
+    lays-joined _ _ (placed (w .before .before)) (w .write-optional .ensures) (c .join2 .ensures) (simp (append-assoc, append-nil))
 
 pub write-contact-spec : {M : Type 1} → statement M
 write-contact-spec =

@@ -2,7 +2,7 @@
 -- Assumes nothing.
 use mathlib.Core.Path.{refl}
 use native.Mathlib.Omega.{arith}
-use Rattle.writing.proofs.Filling.{fills-integer, fills-joined, joined-room}
+use Rattle.writing.proofs.Filling.{lays-integer, lays-joined, joined-room}
 use borrow.Author.Needs.{needs}
 use Rattle.writing.proofs.contact.write_lead.Statement.{statement}
 use Rattle.writing.proofs.contact.write_lead.Tie as tie
@@ -25,7 +25,7 @@ write-u2-requires c κs = search needs
 join-requires : tie.Need-join-requires
 join-requires c κs =
     let u = c .before .before in
-    omega (arith, joined-room (u .before .before .before .before .write-byte .ensures) (fills-integer 1 0 _ _ _ _ _ (omega arith) (u .write-u2 .ensures)))
+    omega (arith, joined-room (u .before .before .before .before .write-byte .ensures) (lays-integer 1 0 _ _ _ _ _ (omega arith) (u .write-u2 .ensures)))
 
 same-length : tie.Need-same-length
 same-length c = search needs
@@ -33,7 +33,7 @@ same-length c = search needs
 returns : tie.Need-returns
 returns c =
     let u = c .before .before .before in
-    fills-joined _ _ (u .before .before .before .before .write-byte .ensures) (fills-integer 1 0 _ _ _ _ _ (omega arith) (u .write-u2 .ensures)) (c .join .ensures) refl
+    lays-joined _ _ (u .before .before .before .before .write-byte .ensures) (lays-integer 1 0 _ _ _ _ _ (omega arith) (u .write-u2 .ensures)) (c .join .ensures) refl
 
 pub write-lead-spec : {M : Type 1} → statement M
 write-lead-spec =

@@ -1,13 +1,13 @@
 -- `writing::contact::write_numbers` meets its contract: orientation, and pressure behind it.
 -- Assumes nothing.
 use mathlib.Core.Path.{refl}
-use Rattle.writing.proofs.Filling.{fills-joined}
+use Rattle.writing.proofs.Filling.{lays-joined}
 use borrow.Author.Needs.{needs}
 use Rattle.writing.proofs.contact.write_numbers.Statement.{statement}
 use Rattle.writing.proofs.contact.write_numbers.Tie as tie
 
-has-bit-requires : tie.Need-has-bit-requires
-has-bit-requires c κs = search needs
+has-field-requires : tie.Need-has-field-requires
+has-field-requires c κs = search needs
 
 write-number-requires : tie.Need-write-number-requires
 write-number-requires c κs = search needs
@@ -21,8 +21,8 @@ part-write-number-start c = search needs
 part-write-number-end : tie.Need-part-write-number-end
 part-write-number-end c = search needs
 
-has-bit-requires-2 : tie.Need-has-bit-requires-2
-has-bit-requires-2 c κs = search needs
+has-field-requires-2 : tie.Need-has-field-requires-2
+has-field-requires-2 c κs = search needs
 
 write-number-requires-2 : tie.Need-write-number-requires-2
 write-number-requires-2 c κs = search needs
@@ -37,18 +37,18 @@ returns : tie.Need-returns
 returns c =
     let p = c .before .before .before in
     let t = p .before .before .before .before .before in
-    fills-joined _ _ (rw (t .before .has-bit .ensures) at (t .write-number .ensures)) (rw (p .before .has-bit2 .ensures) at (p .write-number2 .ensures)) (c .join .ensures) refl
+    lays-joined _ _ (rw (t .before .has-field .ensures) at (t .write-number .ensures)) (rw (p .before .has-field2 .ensures) at (p .write-number2 .ensures)) (c .join .ensures) refl
 
 pub write-numbers-spec : {M : Type 1} → statement M
 write-numbers-spec =
     tie.close
     (tie.spec
-    has-bit-requires
+    has-field-requires
     write-number-requires
     sub-write-number
     part-write-number-start
     part-write-number-end
-    has-bit-requires-2
+    has-field-requires-2
     write-number-requires-2
     join-requires
     same-length

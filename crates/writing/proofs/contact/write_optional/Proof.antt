@@ -2,17 +2,20 @@
 -- Assumes nothing.
 use mathlib.Core.List.{append-nil}
 use Rattle.touch.specs.Touch.{optional}
-use Rattle.writing.proofs.Filling.{fills-joined}
+use Rattle.writing.proofs.Filling.{lays-joined}
 use borrow.Author.Needs.{needs}
 use Rattle.writing.proofs.contact.write_optional.Statement.{statement}
 use Rattle.writing.proofs.contact.write_optional.Tie as tie
 
-has-bit-requires : tie.Need-has-bit-requires
-has-bit-requires c κs = search needs
+cast-has-field : tie.Need-cast-has-field
+cast-has-field c = search needs
+
+has-field-requires : tie.Need-has-field-requires
+has-field-requires c κs = search needs
 
 write-sides-requires : tie.Need-write-sides-requires
 unfolding optional
-write-sides-requires c κs = rw (c .has-bit .ensures) (c .before .before .before .pre .0)
+write-sides-requires c κs = rw (c .has-field .ensures) (c .before .before .before .before .pre .0)
 
 sub-write-numbers : tie.Need-sub-write-numbers
 sub-write-numbers c = search needs
@@ -37,13 +40,14 @@ unfolding optional
 returns c =
     let w = c .before .before .before in
     let v = w .before .before .before .before in
-    fills-joined _ _ (rw (v .before .has-bit .ensures) at (v .write-sides .ensures)) (w .write-numbers .ensures) (c .join .ensures) (simp append-nil)
+    lays-joined _ _ (rw (v .before .has-field .ensures) at (v .write-sides .ensures)) (w .write-numbers .ensures) (c .join .ensures) (simp append-nil)
 
 pub write-optional-spec : {M : Type 1} → statement M
 write-optional-spec =
     tie.close
     (tie.spec
-    has-bit-requires
+    cast-has-field
+    has-field-requires
     write-sides-requires
     sub-write-numbers
     part-write-numbers-start

@@ -2,7 +2,7 @@
 -- Assumes nothing.
 use mathlib.Core.Path.{refl}
 use native.Mathlib.Omega.{arith}
-use Rattle.writing.proofs.Filling.{fills-integer, fills-joined, joined-room}
+use Rattle.writing.proofs.Filling.{lays-integer, lays-joined, joined-room}
 use borrow.Author.Needs.{needs}
 use Rattle.writing.proofs.contact.write_place.Statement.{statement}
 use Rattle.writing.proofs.contact.write_place.Tie as tie
@@ -25,7 +25,7 @@ write-u4-requires c κs = search needs
 join-requires : tie.Need-join-requires
 join-requires c κs =
     let u = c .before .before in
-    omega (arith, joined-room (u .before .before .before .before .write-point .ensures) (fills-integer 2 0 _ _ _ _ _ (omega arith) (u .write-u4 .ensures)))
+    omega (arith, joined-room (u .before .before .before .before .write-point .ensures) (lays-integer 2 0 _ _ _ _ _ (omega arith) (u .write-u4 .ensures)))
 
 same-length : tie.Need-same-length
 same-length c = search needs
@@ -33,7 +33,7 @@ same-length c = search needs
 returns : tie.Need-returns
 returns c =
     let u = c .before .before .before in
-    fills-joined _ _ (u .before .before .before .before .write-point .ensures) (fills-integer 2 0 _ _ _ _ _ (omega arith) (u .write-u4 .ensures)) (c .join .ensures) refl
+    lays-joined _ _ (u .before .before .before .before .write-point .ensures) (lays-integer 2 0 _ _ _ _ _ (omega arith) (u .write-u4 .ensures)) (c .join .ensures) refl
 
 pub write-place-spec : {M : Type 1} → statement M
 write-place-spec =

@@ -1,7 +1,7 @@
 -- `writing::message::write_body` meets its contract: the head, and the records behind it.
 -- Assumes nothing.
 use mathlib.Core.Path.{refl}
-use Rattle.writing.proofs.Filling.{fills-joined}
+use Rattle.writing.proofs.Filling.{lays-joined}
 use borrow.Author.Needs.{needs}
 use Rattle.writing.proofs.message.write_body.Statement.{statement}
 use Rattle.writing.proofs.message.write_body.Tie as tie
@@ -30,7 +30,7 @@ same-length c = search needs
 returns : tie.Need-returns
 returns c =
     let w = c .before .before .before in
-    fills-joined _ _ (w .before .before .before .before .write-touch-head .ensures) (w .write-records .ensures) (c .join .ensures) refl
+    lays-joined _ _ (w .before .before .before .before .write-touch-head .ensures) (w .write-records .ensures) (c .join .ensures) refl
 
 pub write-body-spec : {M : Type 1} → statement M
 write-body-spec =

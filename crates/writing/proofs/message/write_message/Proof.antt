@@ -1,7 +1,7 @@
 -- `writing::message::write_message` meets its contract: the body, and the header over the front.
 -- Assumes nothing.
 use native.Mathlib.Omega.{arith}
-use Rattle.writing.proofs.Filling.{fills-message}
+use Rattle.writing.proofs.Filling.{lays-message}
 use borrow.Author.Needs.{needs}
 use Rattle.writing.proofs.message.write_message.Statement.{statement}
 use Rattle.writing.proofs.message.write_message.Tie as tie
@@ -34,7 +34,7 @@ returns : tie.Need-returns
 returns c =
     let h = c .before .before in
     let b = h .before .before .before .before .before in
-    fills-message 3 _ _ _ _ _ _ (b .write-body .ensures) (omega arith) (h .write-header .ensures)
+    lays-message 3 _ _ _ _ _ _ (b .write-body .ensures) (omega arith) (h .write-header .ensures)
 
 pub write-message-spec : {M : Type 1} → statement M
 write-message-spec =

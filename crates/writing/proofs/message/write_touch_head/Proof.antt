@@ -8,22 +8,22 @@ use lib.ListN.{length}
 use borrow.Rule.Slice.PartMut.{midOf}
 use Rattle.fields.specs.Integers.{strict}
 use Rattle.touch.specs.Touch.{touchHead}
-use Rattle.writing.specs.Filling.{Fills}
-use Rattle.writing.proofs.Filling.{left-by, fills-integer, fills-joined, joined-room}
+use Rattle.writing.specs.Filling.{Lays}
+use Rattle.writing.proofs.Filling.{left-by, lays-integer, lays-joined, joined-room}
 use borrow.Author.Needs.{needs}
 use Rattle.writing.proofs.message.write_touch_head.Statement.{statement}
 use Rattle.writing.proofs.message.write_touch_head.Tie as tie
 
 time : (c : tie.After-write-u4) → let a = c .before .before .before .args in
-    Fills (strict .u4 .write (a .time .0)) (c .write-u4 .result) (now (a .out)) (c .write-u4 .last .0)
-time c = fills-integer 2 0 _ _ _ _ _ (c .before .before .before .pre) (c .write-u4 .ensures)
+    Lays (strict .u4 .write (a .time .0)) (c .write-u4 .result) (now (a .out)) (c .write-u4 .last .0)
+time c = lays-integer 2 0 _ _ _ _ _ (c .before .before .before .pre) (c .write-u4 .ensures)
 
 abbrev up : tie.After-write-u2 → tie.After-write-u4
 up c = c .before .before .before .before
 
 count : (c : tie.After-write-u2) → let x = up c .write-u4 in let a = up c .before .before .before .args in
-    Fills (strict .u2 .write (a .frames)) (c .write-u2 .result) (midOf (x .result .bytes) (length (x .last .0) - x .result .bytes) (x .last .0)) (c .write-u2 .last .0)
-count c = fills-integer 1 0 _ _ _ _ _ (omega arith) (c .write-u2 .ensures)
+    Lays (strict .u2 .write (a .frames)) (c .write-u2 .result) (midOf (x .result .bytes) (length (x .last .0) - x .result .bytes) (x .last .0)) (c .write-u2 .last .0)
+count c = lays-integer 1 0 _ _ _ _ _ (omega arith) (c .write-u2 .ensures)
 
 write-u4-requires : tie.Need-write-u4-requires
 write-u4-requires c κs = search needs
@@ -50,7 +50,7 @@ returns : tie.Need-returns
 unfolding touchHead
 returns c =
     let y = c .before .before .before in
-    fills-joined _ _ (time (up y)) (count y) (c .join .ensures) (rw append-nil)
+    lays-joined _ _ (time (up y)) (count y) (c .join .ensures) (rw append-nil)
 
 pub write-touch-head-spec : {M : Type 1} → statement M
 write-touch-head-spec =

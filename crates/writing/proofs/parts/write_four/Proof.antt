@@ -6,7 +6,7 @@ use mir.Val.{SFits}
 use mir.Facts.{toZ-ofZ}
 use Rattle.house.specs.declared.Sides.{Sides}
 use Rattle.touch.specs.Touch.{sides}
-use Rattle.writing.proofs.Filling.{fills-joined}
+use Rattle.writing.proofs.Filling.{lays-joined}
 use borrow.Author.Needs.{needs}
 use Rattle.writing.proofs.parts.write_four.Statement.{statement}
 use Rattle.writing.proofs.parts.write_four.Tie as tie
@@ -58,7 +58,7 @@ returns c =
     let w = c .before .before .before in
     let v = w .before .before .before .before .before .before in
     let k = v .before .before in
-    fills-joined _ _
+    lays-joined _ _
     (rw (toZ-ofZ (fit k .left), toZ-ofZ (fit k .top)) at (v .write-two .ensures))
     (rw (toZ-ofZ (fit k .right), toZ-ofZ (fit k .bottom)) at (w .write-two2 .ensures))
     (c .join .ensures)

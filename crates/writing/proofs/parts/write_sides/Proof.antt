@@ -1,6 +1,6 @@
 -- `writing::parts::write_sides` meets its contract: the sides, or nothing.
 -- Assumes nothing.
-use Rattle.writing.proofs.Filling.{fills-there, fills-absent}
+use Rattle.writing.proofs.Filling.{lays-there, lays-absent}
 use borrow.Author.Needs.{needs}
 use Rattle.writing.proofs.parts.write_sides.Statement.{statement}
 use Rattle.writing.proofs.parts.write_sides.Tie as tie
@@ -12,13 +12,13 @@ same-length : tie.Need-same-length
 same-length c = search needs
 
 returns : tie.Need-returns
-returns c = fills-there _ _ _ _ _ (c .before .before .before .before .if1 .taken) (c .before .before .write-four .ensures)
+returns c = lays-there _ _ _ _ _ (c .before .before .before .before .if1 .taken) (c .before .before .write-four .ensures)
 
 refused-requires : tie.Need-refused-requires
 refused-requires c κs = search needs
 
 returns-2 : tie.Need-returns-2
-returns-2 c = fills-absent _ _ _ _ (c .before .if1 .left) (c .refused .ensures)
+returns-2 c = lays-absent _ _ _ _ (c .before .if1 .left) (c .refused .ensures)
 
 pub write-sides-spec : {M : Type 1} → statement M
 write-sides-spec =

@@ -11,7 +11,7 @@ use lib.IntN.{pos}
 use lib.ListN.{getD, replicate, length-replicate, getD-replicate, List·getD-eq-default}
 use lib.Seq.{ext-getD}
 use Rattle.states.specs.Table.{table, placeOf, unlisted, from, out, hovering, illegal, next}
-use Rattle.states.proofs.Below.{below}
+use Rattle.tables.proofs.Below.{below}
 use Rattle.states.proofs.Rule.{entries, rule, no-state, no-row}
 use Rattle.house.specs.Twos.{Holds}
 use Rattle.house.specs.Fits.{ContactFits}

@@ -1,15 +1,15 @@
 -- The rule of the constant table: each of its 24 entries is what document 01's table says, by one test over the whole.
 -- Assumes nothing.
-use mathlib.Core.Path.{_≡_, refl, ap, _∙_, sym}
+use mathlib.Core.Path.{_≡_, refl, _∙_}
 use mathlib.Core.Bool.{Bool, true, false, cond}
 use mathlib.Core.List.{List, [], _∷_}
 use Prim.Native.Nat.{ℕ, _+_, _*_, _/_, _%_, _<_, _≤_}
 use native.Mathlib.Omega.{arith}
-use lib.Dec.{eqb, eqb→eq, ltb}
-use lib.ListN.{getD, length, List·getD-eq-default}
+use lib.Dec.{eqb, ltb}
+use lib.ListN.{getD, List·getD-eq-default}
 use borrow.Author.Tests.{ne-eqb, ltb-true, ltb-false}
-use Rattle.states.specs.Table.{Row, table, unlisted, from, illegal, next, listed, placeOf, out, hovering, engaged}
-use Rattle.states.proofs.Below.{below}
+use Rattle.states.specs.Table.{Row, table, unlisted, from, illegal, listed, placeOf, out, hovering, engaged}
+use Rattle.tables.proofs.Below.{below-equal}
 
 -- the entries of `NEXT`
 abbrev pub entries : List ℕ
@@ -19,7 +19,7 @@ entries =
 -- the entry at k is that of row k / 3 and state k % 3
 entry : (k : ℕ) → k < 24 → getD entries k 0 ≡ from (k % 3) (getD table (k / 3) unlisted)
 unfolding from
-entry k h = eqb→eq _ _ (below 24 (λ k. eqb (getD entries k 0) (from (k % 3) (getD table (k / 3) unlisted))) tt k h)
+entry = below-equal 24 (λ k. getD entries k 0) (λ k. from (k % 3) (getD table (k / 3) unlisted)) tt
 
 pub rule : (k s : ℕ) → k < 8 → s ≤ 2 → getD entries (3 * k + s) 0 ≡ from s (getD table k unlisted)
 rule k s hk hs =

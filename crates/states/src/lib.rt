@@ -1,6 +1,5 @@
 // Document 01, "Contact states": the table of eight flag values by three states.
 ghost use mathlib.Core.Path.{_≡_};
-ghost use Prim.Native.Nat.{_≤_};
 ghost use Rattle.states.specs.Table.{table, placeOf, listed, next};
 
 // A contact's states.

@@ -1,11 +1,11 @@
 -- `states::next_state` meets its contract, by the rule of the whole table.
 -- Assumes nothing.
-use mathlib.Core.Path.{_≡_, sym, _∙_, ap}
+use mathlib.Core.Path.{sym, _∙_, ap}
 use borrow.Author.Needs.{needs}
-use Prim.Native.Nat.{ℕ, _+_, _*_, _≤_, _<_}
+use Prim.Native.Nat.{ℕ}
 use lib.ListN.{getD}
-use Rattle.states.specs.Table.{next, from, table, unlisted, placeOf}
-use Rattle.states.proofs.Rule.{entries, rule, no-state, no-row}
+use Rattle.states.specs.Table.{next, from, table, unlisted}
+use Rattle.states.proofs.Rule.{rule, no-state, no-row}
 use Rattle.states.proofs.next_state.Statement.{statement}
 use Rattle.states.proofs.next_state.Tie as tie
 

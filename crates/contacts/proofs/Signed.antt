@@ -9,7 +9,7 @@ use lib.Dec.{eqb}
 use lib.IntN.{ℤ, pos, negsuc}
 use mir.Syntax.{w32}
 use mir.Val.{SFits, ofZ}
-use Rattle.machine.specs.Conforms.{sameNumber}
+use Rattle.tables.specs.Same.{sameNumber}
 
 below : (a b : ℕ) → a < 2 ^ 31 → b < 2 ^ 31 → Dec (a ≡ b) → eqb (2 ^ 32 - suc a) (2 ^ 32 - suc b) ≡ eqb a b
 below a b ha hb (yes e) = eq-eqb (2 ^ 32 - suc a) (2 ^ 32 - suc b) (omega arith) ∙ sym (eq-eqb a b e)

@@ -4,7 +4,7 @@ use Prim.Native.Nat.{ℕ}
 use mathlib.Core.Bool.{Bool, true, false, cond, not}
 use mathlib.Core.List.{List, [], _∷_}
 use lib.Dec.{eqb, leb}
-use lib.IntN.{ℤ, pos, negsuc}
+use Rattle.tables.specs.Same.{sameNumber}
 use Rattle.states.specs.Table.{out, illegal}
 use Rattle.house.specs.declared.Point.{Point}
 use Rattle.machine.specs.Table.{Table, stateAt, placeAt, withContact, origin, countActive}
@@ -18,12 +18,6 @@ every p (a ∷ more) = cond (p a) (every p more) false
 -- "With 0x0C, 0x04 and 0x24 the position must be the stored one."
 abbrev pub lifts : ℕ → Bool
 lifts f = cond (eqb f 0x0C) true (cond (eqb f 0x04) true (eqb f 0x24))
-
-unfoldable pub sameNumber : ℤ → ℤ → Bool
-sameNumber (pos m) (pos n) = eqb m n
-sameNumber (pos m) (negsuc n) = false
-sameNumber (negsuc m) (pos n) = false
-sameNumber (negsuc m) (negsuc n) = eqb m n
 
 abbrev pub samePlace : Point → Point → Bool
 samePlace p q = cond (sameNumber (p .x) (q .x)) (sameNumber (p .y) (q .y)) false

@@ -8,7 +8,7 @@ use Rattle.states.specs.Table.{next, placeOf, from, out}
 use Rattle.house.specs.declared.Record.{Record}
 use Rattle.house.specs.declared.Record.the-variants as Record
 use Rattle.machine.specs.Table.{origin}
-use Rattle.machine.specs.Conforms.{sameNumber}
+use Rattle.tables.specs.Same.{sameNumber}
 use Rattle.contacts.specs.Touch.{bareContact}
 use Rattle.receiver.specs.History.{Path, at, broken, pathStep, path}
 

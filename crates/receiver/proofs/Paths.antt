@@ -25,7 +25,8 @@ use Rattle.house.proofs.Round.{length-head, length-contact, record-of-head, rec
 use Rattle.framing.specs.Frame.{Frame, headOf, contactsBytes, frameBytes, timedFrames}
 use Rattle.touch.specs.Touch.{touchRecord}
 use Rattle.machine.specs.Table.{Table, contacts, stateAt, placeAt, withContact, origin, resting, active}
-use Rattle.machine.specs.Conforms.{every, distinct, nextOf, legal, sameNumber, samePlace, stays, placeIn, moved, tableAfter}
+use Rattle.tables.specs.Same.{sameNumber}
+use Rattle.machine.specs.Conforms.{every, distinct, nextOf, legal, samePlace, stays, placeIn, moved, tableAfter}
 use Rattle.machine.specs.Machine.{Machine, cancelFlags, cancelBytes, cancelsFrom, cancels, stepMachine, stepBytes, runMachine, runBytes, dismissTable, dismissBytes}
 use Rattle.machine.proofs.Table.{state-same, place-same, state-other, place-other, resting-state, resting-place}
 use Rattle.machine.proofs.Conforms.{every-first, every-others, distinct-first, distinct-others, legal-behind, stays-behind}

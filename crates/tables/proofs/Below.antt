@@ -9,6 +9,7 @@ use native.Mathlib.Decide.{ℕ-discrete}
 use native.Mathlib.Omega.{arith}
 use lib.Dec.{T, eqb, eqb→eq}
 use lib.IntN.{ℤ, pos, negsuc}
+use Rattle.tables.specs.Same.{sameNumber}
 
 both-left : (a b : Bool) → T (a && b) → T a
 both-left true b t = tt
@@ -36,17 +37,12 @@ below (suc n) f t k h =
 pub below-equal : (n : ℕ) (f g : ℕ → ℕ) → T (allBelow n (λ k. eqb (f k) (g k))) → (k : ℕ) → k < n → f k ≡ g k
 below-equal n f g t k h = eqb→eq _ _ (below n (λ k. eqb (f k) (g k)) t k h)
 
-abbrev pub eqbℤ : ℤ → ℤ → Bool
-eqbℤ (pos m) (pos n) = eqb m n
-eqbℤ (pos m) (negsuc n) = false
-eqbℤ (negsuc m) (pos n) = false
-eqbℤ (negsuc m) (negsuc n) = eqb m n
+same-equal : (y z : ℤ) → T (sameNumber y z) → y ≡ z
+unfolding sameNumber
+same-equal (pos m) (pos n) t = ap pos (eqb→eq m n t)
+same-equal (pos m) (negsuc n) t = absurd t
+same-equal (negsuc m) (pos n) t = absurd t
+same-equal (negsuc m) (negsuc n) t = ap negsuc (eqb→eq m n t)
 
-eqbℤ→eq : (y z : ℤ) → T (eqbℤ y z) → y ≡ z
-eqbℤ→eq (pos m) (pos n) t = ap pos (eqb→eq m n t)
-eqbℤ→eq (pos m) (negsuc n) t = absurd t
-eqbℤ→eq (negsuc m) (pos n) t = absurd t
-eqbℤ→eq (negsuc m) (negsuc n) t = ap negsuc (eqb→eq m n t)
-
-pub below-equalℤ : (n : ℕ) (f g : ℕ → ℤ) → T (allBelow n (λ k. eqbℤ (f k) (g k))) → (k : ℕ) → k < n → f k ≡ g k
-below-equalℤ n f g t k h = eqbℤ→eq _ _ (below n (λ k. eqbℤ (f k) (g k)) t k h)
+pub below-same : (n : ℕ) (f g : ℕ → ℤ) → T (allBelow n (λ k. sameNumber (f k) (g k))) → (k : ℕ) → k < n → f k ≡ g k
+below-same n f g t k h = same-equal _ _ (below n (λ k. sameNumber (f k) (g k)) t k h)

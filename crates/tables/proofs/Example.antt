@@ -5,10 +5,12 @@ use mathlib.Core.List.{List, [], _∷_}
 use Prim.Native.Nat.{ℕ, _+_, _%_, _<_}
 use lib.IntN.{ℤ, pos, negsuc, negℤ}
 use lib.ListN.{getD}
-use Rattle.tables.proofs.Below.{below-equalℤ}
+use Rattle.tables.specs.Same.{sameNumber}
+use Rattle.tables.proofs.Below.{below-same}
 
 abbrev quarters : List ℤ
 quarters = pos 0 ∷ pos 1 ∷ pos 0 ∷ negsuc 0 ∷ []
 
 pub example-half-turn : (k : ℕ) → k < 4 → getD quarters ((k + 2) % 4) (pos 0) ≡ negℤ (getD quarters k (pos 0))
-example-half-turn = below-equalℤ 4 (λ k. getD quarters ((k + 2) % 4) (pos 0)) (λ k. negℤ (getD quarters k (pos 0))) tt
+unfolding sameNumber
+example-half-turn = below-same 4 (λ k. getD quarters ((k + 2) % 4) (pos 0)) (λ k. negℤ (getD quarters k (pos 0))) tt

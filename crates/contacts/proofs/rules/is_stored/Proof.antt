@@ -8,7 +8,7 @@ use mir.Facts.{toZ-ofZ}
 use lib.IntN.{pos}
 use lib.ListN.{getD}
 use Rattle.machine.specs.Table.{placeAt}
-use Rattle.machine.specs.Conforms.{sameNumber}
+use Rattle.tables.specs.Same.{sameNumber}
 use Rattle.contacts.proofs.rules.is_stored.Statement.{statement}
 use Rattle.contacts.proofs.rules.is_stored.Tie as tie
 

@@ -1,0 +1,2 @@
+-- Numbers of tables.
+pub mod Same

@@ -1,6 +1,7 @@
 -- The five integers as lawful formats, whatever the reading, and the strict one.
 -- Assumes nothing.
 use Prim.Native.Nat.{ℕ, zero, suc, _+_, _≤_, _<_}
+use mathlib.Core.Logic.{_↔_}
 use mathlib.Core.Path.{_≡_, refl, sym, _∙_}
 use mathlib.Core.List.{List, _++_}
 use native.Mathlib.Omega.{arith}
@@ -10,11 +11,11 @@ use lib.ListN.{length, take, drop, take-append-drop}
 use lib.Seq.{drop-append-seam}
 use Rattle.digits.specs.Digits.{Bytes}
 use Rattle.digits.proofs.Laws.{bytes-drop}
-use Rattle.formats.specs.Format.{got}
+use Rattle.formats.specs.Format.{got, Format}
 use Rattle.formats.proofs.Laws.{Law, Back, Sound, Exact, never}
 use Rattle.integers.specs.Integer.{Reading, value, refused, reading, writing, limit, signs}
 use Rattle.integers.specs.Answer.{minus, signedValue}
-use Rattle.integers.proofs.Laws.{length-and-value}
+use Rattle.integers.proofs.Laws.{length-and-value, writing-shorter}
 use Rattle.integers.proofs.Signed.{minus-small, signed-again}
 use Rattle.fields.specs.Integers.{Shape, unsigned, signed, gotBy, integer, Integers, integersBy, strict}
 
@@ -94,6 +95,15 @@ module _ {A : Type 0} (h : Shape A) (rd : ℕ → ℕ → List ℕ → Reading) 
           let p : take n l ≡ writing k g (h .sign b) (h .size b) = rw (← z, w .sign s m (f .0) (f .1), w .size s m (f .0) (f .1)) (x l s m n hl v) in
           sym (take-append-drop n l) ∙ rw (p, y)
 
+-- ---- a count: one that is less can be written too, and no longer
+
+pub record Downward (f : Format ℕ) : Type 0 where
+  pub holds : (m n : ℕ) → m ≤ n → f .Holds n → f .Holds m
+  pub shorter : (m n : ℕ) → m ≤ n → f .Holds n → length (f .write m) ≤ length (f .write n)
+
+pub integer-downward : (rd : ℕ → ℕ → List ℕ → Reading) (k : ℕ) → k ≤ 3 → Downward (integer unsigned rd k 0)
+integer-downward rd k hk = record { holds = λ m n le h. omega arith; shorter = λ m n le h. writing-shorter k 0 0 m n hk (omega arith) le h }
+
 -- ---- the five: lawful, and exact where X holds
 
 pub record IntegersLaw (X : Type 0) (i : Integers) : Type 0 where
@@ -119,6 +129,24 @@ module _ (X : Type 0) (rd : ℕ → ℕ → List ℕ → Reading) (h : (k g : �
         u8 = one-law unsigned 3 0 unsigned-shaped (lit≤ tt) (lit≤ tt);
       }
 
+-- and what can be written is what is in range
+pub record IntegersRange (i : Integers) : Type 0 where
+  pub u2 : (n : ℕ) → i .u2 .Holds n ↔ (n < limit 1 0)
+  pub s2 : (z : ℤ) → i .s2 .Holds z ↔ (natAbs z < limit 1 1)
+  pub u4 : (n : ℕ) → i .u4 .Holds n ↔ (n < limit 2 0)
+  pub s4 : (z : ℤ) → i .s4 .Holds z ↔ (natAbs z < limit 2 1)
+  pub u8 : (n : ℕ) → i .u8 .Holds n ↔ (n < limit 3 0)
+
+pub integers-range : (rd : ℕ → ℕ → List ℕ → Reading) → IntegersRange (integersBy rd)
+integers-range rd =
+    record {
+      u2 = λ n. (λ h. h, λ h. h);
+      s2 = λ z. (λ h. h, λ h. h);
+      u4 = λ n. (λ h. h, λ h. h);
+      s4 = λ z. (λ h. h, λ h. h);
+      u8 = λ n. (λ h. h, λ h. h);
+    }
+
 strict-reads : (k g : ℕ) → k ≤ 3 → k + g ≤ 8 → Reads reading k g
 strict-reads k g hk h =
     let v = length-and-value k g hk h in
@@ -129,3 +157,9 @@ strict-reads k g hk h =
 
 pub strict-law : IntegersLaw (Unit {0}) strict
 strict-law = integers-law (Unit {0}) reading strict-reads (λ x k g hk h. length-and-value k g hk h .exact)
+
+pub strict-range : IntegersRange strict
+strict-range = integers-range reading
+
+pub strict-counts : Downward (strict .u2)
+strict-counts = integer-downward reading 1 (lit≤ tt)

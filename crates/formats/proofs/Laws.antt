@@ -1,10 +1,11 @@
 -- The laws of the formats, each proved once for a combinator.
 -- Assumes nothing.
-use Prim.Native.Nat.{ℕ, zero, suc, _+_, _*_, _/_, _%_, _^_, _<_}
+use Prim.Native.Nat.{ℕ, zero, suc, _+_, _-_, _*_, _/_, _^_, _<_}
 use mathlib.Core.Path.{_≡_, refl, sym, ap, _∙_}
 use mathlib.Core.Bool.{Bool, true, false, cond}
 use mathlib.Core.List.{List, [], _∷_, _++_, append-assoc, append-nil}
 use native.Mathlib.Nat.{pow-suc, div-add-mod', div-lt-iff-lt-mul}
+use native.Mathlib.Numerals.{sub-one}
 use native.Mathlib.Omega.{arith}
 use lib.Arith.{digits-div, digits-mod, digits-lt}
 use lib.Dec.{lit<}
@@ -181,6 +182,11 @@ module _ {A : Type 0} (f : Bool → Format A) where
       let m = more-got first n l s t h in
       let i = series-exact hf xf false n (m .after) (m .rest) t (hf first l (m .head) (m .after) hl (m .one) .1) (m .others) in
       rw (m .all, append-assoc, ← i) (xf first l (m .head) (m .after) hl (m .one))
+
+-- the next of a series that is not at its end
+pub next-got : {A : Type 0} (f : Bool → Format A) (first : Bool) (k : ℕ) (l : List ℕ) (s : List A) (t : List ℕ) → 0 < k → readSeries (λ b. f b .read) first k l ≡ got s t → More f first (k - 1) l s t
+next-got f first zero l s t h e = absurd (omega arith)
+next-got f first (suc k) l s t h e = rw sub-one (more-got f first k l s t e)
 
 -- THE ROUND TRIP of a whole message
 module _ {A : Type 0} (f : Format A) (e : ℕ) where

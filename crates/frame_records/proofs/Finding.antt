@@ -9,14 +9,17 @@ use lib.Seq.{drop-drop}
 use native.Mathlib.Omega.{arith}
 use Rattle.formats.specs.Format.{Got, got, bad, times, readSeries}
 use Rattle.formats.specs.Answer.{skip, skipped}
-use Rattle.formats.proofs.Laws.{never, series-length}
+use Rattle.formats.proofs.Laws.{never, series-length, next-got}
 use Rattle.formats.proofs.Steps.{tail}
 use Rattle.fields.specs.Integers.{strict}
 use Rattle.house.specs.declared.Head.{Head}
 use Rattle.house.specs.declared.Contact.{Contact}
 use Rattle.framing.specs.Frame.{Frame, headOf}
+use Rattle.touch.specs.Limits.{touchLimits}
+use Rattle.framing.proofs.Reading.{frame-got}
+use Rattle.framing.specs.Format.{frameFormat}
 use Rattle.touch.specs.Touch.{contact, frameHead, frame}
-use Rattle.touch.proofs.Passes.{frameBy, frame-got, next-got}
+use Rattle.touch.proofs.Passes.{frameBy}
 use Rattle.frame_records.specs.Frames.{Found, nowhere, FindsFrame, FindsHeadAt, FindsHead}
 use Rattle.frame_records.specs.declared.FoundFrame.{FoundFrame}
 use Rattle.frame_records.specs.declared.FoundHead.{FoundHead}
@@ -24,13 +27,13 @@ use Rattle.frame_records.specs.declared.FoundHead.{FoundHead}
 module _ (l : List ℕ) where
   -- no head
   pub headless : (e : ℕ) (r : FoundFrame) → frameHead strict false .read l ≡ bad e → r ≡ nowhere → FindsFrame l r
-  unfolding frame
+  unfolding frameFormat
   headless e r h q = rw q (record { found = rw h; begins = omega arith; ends = omega arith })
 
   module _ (h : Head) (at : ℕ) (w : frameHead strict false .read l ≡ got h (drop at l)) where
     -- no contacts
     pub unfinished : (e : ℕ) (r : FoundFrame) → skip (times (h .count) (contact strict)) .read (drop at l) ≡ bad e → r ≡ nowhere → FindsFrame l r
-    unfolding frame
+    unfolding frameFormat
     unfinished e r v q = go (times (h .count) (contact strict) .read (drop at l)) refl v
       where
         go : (x : Got (List Contact)) → times (h .count) (contact strict) .read (drop at l) ≡ x → skipped x ≡ bad e → FindsFrame l r
@@ -39,7 +42,7 @@ module _ (l : List ℕ) where
 
     pub complete : (end : ℕ) → skip (times (h .count) (contact strict)) .read (drop at l) ≡ got tt (drop end l) → at ≤ length l → end ≤ length l
         → FindsFrame l (record { head = h; contacts = at; end = end })
-    unfolding frame
+    unfolding frameFormat
     complete end v low high = go (times (h .count) (contact strict) .read (drop at l)) refl v
       where
         go : (x : Got (List Contact)) → times (h .count) (contact strict) .read (drop at l) ≡ x → skipped x ≡ got tt (drop end l)
@@ -80,7 +83,7 @@ pub found-by-head : (l : List ℕ) (at : ℕ) (h : FoundHead) (end : ℕ) → Fi
     → (f : Frame Contact) (t : List ℕ) → frameBy false (drop at l) ≡ got f t
     → Found (drop at l) f t (record { head = h .head; contacts = h .contacts; end = h .contacts + end })
 found-by-head l at h end here ends f t e =
-    let r = frame-got false (drop at l) f t e in
+    let r = frame-got strict touchLimits (contact strict) false (drop at l) f t e in
     let x : FindsHead (drop at l) h = rw (tail l at) at here in
     let y : FindsHeadAt (got (headOf f) (r .after)) (drop at l) h = rw (r .head) at (x .found) in
     let a : drop (at + h .contacts) l ≡ r .after = sym (drop-drop (h .contacts) at l) ∙ y .1 in

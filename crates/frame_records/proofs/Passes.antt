@@ -10,9 +10,8 @@ use borrow.Rule.Slice.PartMut.{midOf, putMid}
 use Rattle.slices.specs.Writing.{laid}
 use Rattle.slices.proofs.Tails.{laidAt, laid-none, tail-is, wrote}
 use Rattle.formats.specs.Format.{got, bad, Format, readSeries}
-use Rattle.formats.proofs.Laws.{never}
+use Rattle.formats.proofs.Laws.{never, next-got}
 use Rattle.formats.proofs.Steps.{series-end, series-bad}
-use Rattle.touch.proofs.Passes.{next-got}
 
 -- values of the formats f, and the bytes b that are written of them
 module _ {A : Type 0} (f : Bool → Format A) (b : List A → List ℕ) where

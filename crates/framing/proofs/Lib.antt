@@ -1,2 +1,6 @@
 -- Laws of frames.
 pub mod Timed
+pub mod Laws
+pub mod Order
+pub mod Reading
+pub mod Tail

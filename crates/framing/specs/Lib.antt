@@ -1,2 +1,3 @@
 -- Frames of contacts, over any contact.
 pub mod Frame
+pub mod Format

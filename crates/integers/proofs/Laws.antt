@@ -5,7 +5,7 @@ use Prim.Native.Nat.{ℕ, zero, suc, _+_, _-_, _*_, _/_, _%_, _^_, _<_, _≤_}
 use mathlib.Core.Path.{_≡_, refl, sym, ap, _∙_}
 use mathlib.Core.List.{List, [], _∷_, _++_}
 use mathlib.Core.Bool.{Bool, true, false, cond}
-use native.Mathlib.Nat.{lt-of-lt-of-le, mul-le-mul-left, pow-le-pow-right, div-add-mod', div-lt-iff-lt-mul, mod-lt}
+use native.Mathlib.Nat.{lt-of-lt-of-le, lt-of-le-of-lt, mul-le-mul-left, pow-le-pow-right, div-add-mod', div-lt-iff-lt-mul, mod-lt}
 use native.Mathlib.Numerals.{add-one}
 use native.Mathlib.Omega.{arith}
 use lib.Dec.{ltb, leb, eqb, lit<}
@@ -18,7 +18,7 @@ use Rattle.digits.specs.Digits.{joined, digits, Bytes}
 use Rattle.digits.proofs.Laws.{bytes-take, pow-pos, joined-whole, joined-div, joined-small, digits-joined, length-digits, digits-bytes}
 use Rattle.slices.specs.Writing.{bytes, refuse}
 use Rattle.integers.specs.Integer.{Reading, value, refused, decoded, furthest, fewest, only, decodedOnly, formed, written, countOf, signOf, tops, signs, limit, reading, writing, draft}
-use Rattle.integers.proofs.Fewest.{fewest-fits}
+use Rattle.integers.proofs.Fewest.{fewest-fits, fewest-least}
 use Rattle.integers.proofs.ByteOne.{tops-pos, signs-pos, count-range, held, top-byte}
 
 -- ---- decoding, at any length
@@ -296,6 +296,14 @@ pub writing-length : (k g s m : ℕ) → k ≤ 3 → k + g ≤ 8 → m < limit k
 writing-length k g s m hk h hm =
     let l = length-formed (tops k g) (signs g) (fewest furthest (tops k g) m) s m in
     (omega arith, omega (arith, held k g m hk h hm .most))
+
+-- a magnitude that is less is written no longer
+pub writing-shorter : (k g s m n : ℕ) → k ≤ 3 → k + g ≤ 8 → m ≤ n → n < limit k g → length (writing k g s m) ≤ length (writing k g s n)
+writing-shorter k g s m n hk h less hn =
+    let t = tops k g in
+    let c = fewest furthest t n in
+    let l = fewest-least furthest t m c (lt-of-le-of-lt less (held k g n hk h hn .fits)) in
+    omega (arith, length-formed t (signs g) (fewest furthest t m) s m, length-formed t (signs g) c s n)
 
 -- a value in the range is drafted as its bytes, any other refused with 10
 module _ (k g s m : ℕ) where

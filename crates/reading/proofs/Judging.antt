@@ -11,10 +11,11 @@ use Rattle.formats.specs.Format.{Got, got, bad}
 use Rattle.formats.proofs.Laws.{never}
 use Rattle.formats.proofs.Steps.{tail}
 use Rattle.fields.specs.Integers.{strict}
+use Rattle.framing.specs.Format.{summary}
 use Rattle.messages.specs.Header.{headerBytes}
 use Rattle.touch.specs.Touch.{Touch, body}
-use Rattle.touch.specs.Answer.{summary, Checks}
-use Rattle.touch.specs.declared.TouchHead.{TouchHead}
+use Rattle.touch.specs.Answer.{Checks}
+use Rattle.framing.specs.declared.BodyHead.{BodyHead}
 use Rattle.touch.specs.declared.CheckedBody.the-variants as CheckedBody
 use Rattle.touch.proofs.Passes.{checked}
 use Rattle.reading.specs.Plain.{plainly}
@@ -29,10 +30,10 @@ module _ (l : List ℕ) (b : plainly l ≡ body strict false (take (length l - h
   pub body-refused : (e : ℕ) → Checks false (take (length l - headerBytes) (drop headerBytes l)) (CheckedBody.Refused e) → plainly l ≡ bad e
   body-refused e c = b ∙ refused-of e _ (c .same)
 
-  pub body-inside : (h : TouchHead) (at : ℕ) → headerBytes ≤ length l → Checks false (take (length l - headerBytes) (drop headerBytes l)) (CheckedBody.Body h at) → headerBytes + at ≤ length l
+  pub body-inside : (h : BodyHead) (at : ℕ) → headerBytes ≤ length l → Checks false (take (length l - headerBytes) (drop headerBytes l)) (CheckedBody.Body h at) → headerBytes + at ≤ length l
   body-inside h at low c = omega (arith, rw (tail l headerBytes, length-drop headerBytes l) at (c .begins .inside))
 
-  pub body-read : (h : TouchHead) (at : ℕ) → headerBytes ≤ length l → Checks false (take (length l - headerBytes) (drop headerBytes l)) (CheckedBody.Body h at) → Reads l h (headerBytes + at)
+  pub body-read : (h : BodyHead) (at : ℕ) → headerBytes ≤ length l → Checks false (take (length l - headerBytes) (drop headerBytes l)) (CheckedBody.Body h at) → Reads l h (headerBytes + at)
   body-read h at low c =
       let d : Checks false (drop headerBytes l) (CheckedBody.Body h at) = rw (tail l headerBytes) at c in
       let k = checked false (drop headerBytes l) h at d in

@@ -9,8 +9,9 @@ use Rattle.formats.specs.Format.{Format, got, bad, series}
 use Rattle.fields.specs.Integers.{strict}
 use Rattle.house.specs.declared.Contact.{Contact}
 use Rattle.framing.specs.Frame.{Frame, framesBytes}
-use Rattle.touch.specs.Touch.{Touch, touchHeadOf, frame, touchRecord}
-use Rattle.touch.specs.declared.TouchHead.{TouchHead}
+use Rattle.framing.specs.Format.{bodyHeadOf}
+use Rattle.touch.specs.Touch.{Touch, frame, touchRecord}
+use Rattle.framing.specs.declared.BodyHead.{BodyHead}
 use Rattle.touch.specs.declared.CheckedBody.{CheckedBody}
 use Rattle.touch.specs.declared.CheckedBody.the-variants as CheckedBody
 use Rattle.frame_records.specs.Frames.{recordsIn}
@@ -21,10 +22,10 @@ abbrev pub frames : ℕ → Format (List (Frame Contact))
 frames n = series (frame strict) false n
 
 -- a message that is read: what stands before its frames, and that these begin at at
-pub record Reads (l : List ℕ) (h : TouchHead) (at : ℕ) : Type 0 where
+pub record Reads (l : List ℕ) (h : BodyHead) (at : ℕ) : Type 0 where
   pub message : Touch
   pub read : plainly l ≡ got message []
-  pub head : h ≡ touchHeadOf message
+  pub head : h ≡ bodyHeadOf message
   pub inside : at ≤ length l
   pub frames : frames (h .frames) .read (drop at l) ≡ got (message .frames) []
 

@@ -9,14 +9,17 @@ use Rattle.digits.specs.Digits.{Bytes}
 use Rattle.formats.specs.Format.{Got, got, bad, Format, readSeries}
 use Rattle.formats.proofs.Laws.{Sound, never, more-got}
 use Rattle.fields.specs.Integers.{strict}
-use Rattle.fields.proofs.Laws.{strict-law}
+use Rattle.fields.proofs.Laws.{strict-law, strict-range}
 use Rattle.house.specs.Fits.{HeadFits, ContactFits}
 use Rattle.house.specs.declared.Contact.{Contact}
 use Rattle.framing.specs.Frame.{Frame, headOf, timedFrames, timedFrame}
-use Rattle.touch.specs.Touch.{Touch, contact, frame, touchHead, touch, body}
-use Rattle.touch.specs.declared.TouchHead.{TouchHead}
-use Rattle.touch.proofs.Laws.{contact-law, frame-head-law, frame-law, touch-head-law}
-use Rattle.touch.proofs.Passes.{body-got, frame-got}
+use Rattle.framing.specs.Format.{bodyFormat}
+use Rattle.touch.specs.Touch.{Touch, contact, frame, touchHead, body}
+use Rattle.framing.specs.declared.BodyHead.{BodyHead}
+use Rattle.framing.proofs.Laws.{frame-head-law, frame-law, body-head-law}
+use Rattle.framing.proofs.Reading.{body-got, frame-got}
+use Rattle.touch.specs.Limits.{touchLimits}
+use Rattle.touch.proofs.Laws.{contact-law}
 use Rattle.touch.proofs.Ranges.{contact-read, frame-fits}
 
 -- each of a list
@@ -40,25 +43,25 @@ module _ {A : Type 0} (f : Bool → Format A) (P : A → Type 0) (sound : (b : B
 
 frame-read : (judged : Bool) (l : List ℕ) (f : Frame Contact) (t : List ℕ) → Bytes l → frame strict judged .read l ≡ got f t → FrameFits f
 frame-read judged l f t hl e =
-    let g = frame-got judged l f t e in
-    let ha = frame-head-law strict strict-law judged .sound l (headOf f) (g .after) hl (g .head) .1 in
+    let g = frame-got strict touchLimits (contact strict) judged l f t e in
+    let ha = frame-head-law strict strict-law touchLimits judged .sound l (headOf f) (g .after) hl (g .head) .1 in
     record {
-      head = frame-fits judged l f t hl e;
+      head = frame-fits strict strict-range strict-law judged l f t hl e;
       contacts =
-          all-read (λ b. contact strict) ContactFits (λ b. contact-law strict strict-law .sound) (λ b l c t hl e. contact-read l c t hl e .fits)
+          all-read (λ b. contact strict) ContactFits (λ b. contact-law strict strict-law .sound) (λ b l c t hl e. contact-read strict strict-range strict-law l c t hl e .fits)
           false _ (g .after) (f .contacts) t ha (g .contacts);
     }
 
 pub body-fits : (judged : Bool) (l : List ℕ) (m : Touch) (t : List ℕ) → Bytes l → body strict judged l ≡ got m t → All FrameFits (m .frames)
-unfolding touch
+unfolding bodyFormat
 body-fits judged l m t hl e = go (touchHead strict .read l) refl
   where
-    go : (x : Got TouchHead) → touchHead strict .read l ≡ x → All FrameFits (m .frames)
+    go : (x : Got BodyHead) → touchHead strict .read l ≡ x → All FrameFits (m .frames)
     go (bad n) h = never n m t (rw h at e)
     go (got k after) h =
-        let b = body-got judged l m t k after e h in
-        let ha = touch-head-law strict strict-law .sound l k after hl h .1 in
-        all-read (frame strict) FrameFits (λ b. frame-law strict strict-law b .sound) frame-read judged (k .frames) after (m .frames) [] ha (b .frames)
+        let b = body-got strict touchLimits (contact strict) judged l m t k after e h in
+        let ha = body-head-law strict strict-law touchLimits .sound l k after hl h .1 in
+        all-read (frame strict) FrameFits (λ b. frame-law strict strict-law touchLimits (contact strict) (contact-law strict strict-law) b .sound) frame-read judged (k .frames) after (m .frames) [] ha (b .frames)
 
 -- also with offset 0
 timed-fits : (b : Bool) (f : Frame Contact) → FrameFits f → FrameFits (timedFrame b f)

@@ -18,7 +18,9 @@ use Rattle.messages.specs.Header.{headed, clientReady, touch, headerBytes, most
 use Rattle.messages.specs.Bodies.{readyBy, ready, readyFlags, version}
 use Rattle.house.specs.declared.Contact.{Contact}
 use Rattle.framing.specs.Frame.{Frame, headOf}
-use Rattle.touch.specs.Touch.{optionalOf, touchHeadOf, present, point, flags, sides, orientation, pressure, optional, contact, contactCount, offset, frameHead, frame, frameCount, touchHead, body}
+use Rattle.touch.specs.Limits.{mostContacts, mostFrames}
+use Rattle.framing.specs.Format.{bodyFormat, bodyHeadFormat, frameFormat, frameHeadFormat, bodyHeadOf, countTo, offset}
+use Rattle.touch.specs.Touch.{optionalOf, present, point, flags, sides, orientation, pressure, optional, contact, frameHead, frame, touchHead, body}
 use Rattle.touch.specs.Touch as format
 use Rattle.receiver.specs.declared.Receiver.{Receiver}
 use Rattle.receiver.specs.declared.Answer.{Answer}
@@ -182,30 +184,30 @@ offset-tame true = such-tame _ _ _ (num badOffset tt tt) u8
 offset-tame false = u8
 
 frame-head-tame : (b : Bool) → Tamed (frameHead strict b)
-unfolding frameHead
+unfolding frameHeadFormat
 frame-head-tame b =
-    field-tame (contactCount strict) (λ h. h .count) _ (such-tame _ _ _ (num badCount tt tt) u2) λ n.
+    field-tame (countTo strict mostContacts) (λ h. h .count) _ (such-tame _ _ _ (num badCount tt tt) u2) λ n.
     field-tame (offset strict b) (λ h. h .offset .0) _ (offset-tame b) λ o.
     done-tame _
 
 frame-tame : (b : Bool) → Tamed (frame strict b)
-unfolding frame
+unfolding frameFormat
 frame-tame b =
     field-tame (frameHead strict b) headOf _ (frame-head-tame b) λ h.
     field-tame _ (λ f. f .contacts) _ (series-tame (λ k. contact strict) false (h .count) (λ k. contact-tame)) λ cs.
     done-tame _
 
 touch-head-tame : Tamed (touchHead strict)
-unfolding touchHead
+unfolding bodyHeadFormat
 touch-head-tame =
     field-tame _ (λ h. h .time .0) _ u4 λ t.
-    field-tame (frameCount strict) (λ h. h .frames) _ (such-tame _ _ _ (num badCount tt tt) u2) λ n.
+    field-tame (countTo strict mostFrames) (λ h. h .frames) _ (such-tame _ _ _ (num badCount tt tt) u2) λ n.
     done-tame _
 
 pub touch-tame : (b : Bool) → Tamed (format.touch strict b)
-unfolding format.touch
+unfolding bodyFormat
 touch-tame b =
-    field-tame (touchHead strict) touchHeadOf _ touch-head-tame λ h.
+    field-tame (touchHead strict) bodyHeadOf _ touch-head-tame λ h.
     field-tame _ (λ m. m .frames) _ (series-tame (frame strict) b (h .frames) frame-tame) λ fs.
     done-tame _
 

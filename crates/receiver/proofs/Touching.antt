@@ -17,12 +17,15 @@ use Rattle.formats.proofs.Steps.{tail}
 use Rattle.fields.specs.Integers.{strict}
 use Rattle.house.specs.declared.Contact.{Contact}
 use Rattle.framing.specs.Frame.{Frame, timedFrames}
-use Rattle.touch.specs.Touch.{Touch, touchHeadOf, body}
-use Rattle.touch.specs.Answer.{summary, checkedGot, checkedRefusal, Checks}
-use Rattle.touch.specs.declared.TouchHead.{TouchHead}
+use Rattle.touch.specs.Limits.{touchLimits}
+use Rattle.framing.proofs.Reading.{frames-freed}
+use Rattle.framing.specs.Format.{bodyHeadOf, summary}
+use Rattle.touch.specs.Touch.{Touch, body, contact}
+use Rattle.touch.specs.Answer.{checkedGot, checkedRefusal, Checks}
+use Rattle.framing.specs.declared.BodyHead.{BodyHead}
 use Rattle.touch.specs.declared.CheckedBody.{CheckedBody}
 use Rattle.touch.specs.declared.CheckedBody.the-variants as CheckedBody
-use Rattle.touch.proofs.Passes.{frameBy, frames-freed, Checked, checked}
+use Rattle.touch.proofs.Passes.{frameBy, Checked, checked}
 use Rattle.machine.specs.Table.{Table, contacts}
 use Rattle.machine.specs.Machine.{Machine, Counts, runBytes}
 use Rattle.contacts.specs.Touch.{touchView}
@@ -81,17 +84,17 @@ module _ (r : Receiver) (l : List ℕ) (un : Bool) (eu : un ≡ untimed r) (acti
 
   -- ---- carried out
 
-  module _ (h : TouchHead) (x : Runs (h .frames) l un true (off (r .ignoring)) (rulesOf r) active run (machineOf r .table) u before after)
+  module _ (h : BodyHead) (x : Runs (h .frames) l un true (off (r .ignoring)) (rulesOf r) active run (machineOf r .table) u before after)
       (b i : ℕ) (time : Milliseconds) (answer : Answer)
       (eb : b ≡ begunBy (r .begun) (h .frames)) (ei : i ≡ mark (not (run .running))) (et : time ≡ cond un (record { 0 = 0 }) (h .time)) (ea : answer ≡ answerOfRun run time) where
-    module _ (m : Touch) (rest : List ℕ) (eh : h ≡ touchHeadOf m) (e : readSeries frameBy false (h .frames) l ≡ got (m .frames) rest) where
+    module _ (m : Touch) (rest : List ℕ) (eh : h ≡ bodyHeadOf m) (e : readSeries frameBy false (h .frames) l ≡ got (m .frames) rest) where
       ran : Ran (rulesOf r) (timedFrames (untimed r) (m .frames)) true (off (r .ignoring)) run (machineOf r .table) u before after
       ran = rw (frames-same r un eu (m .frames)) at (x .ran (m .frames) rest e a)
 
       receiver-is : record { ready = r .ready; begun = b; ignoring = i; settings = r .settings; states = u .states; xs = u .xs; ys = u .ys } ≡ touched r m .receiver
       unfolding touched
       receiver-is =
-          let eb′ = eb ∙ ap (λ (g : TouchHead). begunBy (r .begun) (g .frames)) eh in
+          let eb′ = eb ∙ ap (λ (g : BodyHead). begunBy (r .begun) (g .frames)) eh in
           let ei′ = ei ∙ ap (λ (k : Machine). mark (not (k .running))) (ran .machine) in
           let s = ap (λ (k : Machine). k .table .states) (ran .machine) in
           let p = ap (λ (k : Machine). k .table .xs) (ran .machine) in
@@ -101,7 +104,7 @@ module _ (r : Receiver) (l : List ℕ) (un : Bool) (eu : un ≡ untimed r) (acti
       answer-is : answer ≡ answerOf (touched r m)
       unfolding touched
       answer-is =
-          let et′ = et ∙ ap (λ (g : TouchHead). timeBy un (g .time)) eh ∙ ap (λ (y : Bool). timeBy y (m .time)) eu in
+          let et′ = et ∙ ap (λ (g : BodyHead). timeBy un (g .time)) eh ∙ ap (λ (y : Bool). timeBy y (m .time)) eu in
           let k = ran .counts in
           let n = quotient (run .records) _ (ran .records) in
           ea
@@ -133,14 +136,14 @@ module _ (r : Receiver) (b : List ℕ) (j : Bool) (ej : j ≡ judged r) (before 
   touch-refused x n k c e f a = go (body strict j b) refl (sym (ap checkedGot e) ∙ c .same)
     where
       go : (y : Got Touch) → body strict j b ≡ y → bad n ≡ summary y → Gives r (touchEffect r b) before q before
-      go (got m t) w s = never n (touchHeadOf m) t s
+      go (got m t) w s = never n (bodyHeadOf m) t s
       go (bad z) w s =
           let v : body strict (judged r) b ≡ bad z = rw ej at w in
           let zn : z ≡ n = cc in
           let kn : k ≡ z = f ∙ ap checkedRefusal e ∙ sym zn in
           gives-refused r before q (touchEffect r b) z (rw v) (a ∙ ap (λ (y : ℕ). record { receiver = r; answer = refusal y }) kn)
 
-  module _ (h : TouchHead) (at : ℕ) (c : Checks j b (CheckedBody.Body h at)) (roomy : Bool) (mid : List ℕ)
+  module _ (h : BodyHead) (at : ℕ) (c : Checks j b (CheckedBody.Body h at)) (roomy : Bool) (mid : List ℕ)
       (t : Rooms r (h .frames) (take (length b - at) (drop at b)) (length b) roomy before mid) where
     it : Checked j b h at
     it = checked j b h at c
@@ -152,7 +155,7 @@ module _ (r : Receiver) (b : List ℕ) (j : Bool) (ej : j ≡ judged r) (before 
     effect-is = let v = read in rw v
 
     frames-are : readSeries frameBy false (h .frames) (take (length b - at) (drop at b)) ≡ got (it .message .frames) []
-    frames-are = rw (tail b at) (frames-freed j (h .frames) (drop at b) (it .message .frames) [] (it .frames))
+    frames-are = rw (tail b at) (frames-freed strict touchLimits (contact strict) j (h .frames) (drop at b) (it .message .frames) [] (it .frames))
 
     same : mid ≡ before
     same = t .kept (it .message .frames) [] frames-are

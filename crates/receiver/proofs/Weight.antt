@@ -22,9 +22,12 @@ use Rattle.house.specs.declared.Contact.{Contact}
 use Rattle.house.proofs.Round.{length-contact}
 use Rattle.framing.proofs.Timed.{timed-contacts}
 use Rattle.framing.specs.Frame.{Frame, timedFrames}
-use Rattle.touch.specs.Touch.{Touch, optionalOf, present, point, flags, sides, orientation, pressure, optional, contact, offset, frameHead, frame, frameCount, touchHead, touch, body}
-use Rattle.touch.specs.declared.TouchHead.{TouchHead}
-use Rattle.touch.proofs.Passes.{contactBy, frameBy, frame-got, body-got}
+use Rattle.framing.proofs.Reading.{frame-got, body-got}
+use Rattle.touch.specs.Limits.{mostFrames, touchLimits}
+use Rattle.framing.specs.Format.{bodyFormat, bodyHeadFormat, frameHeadFormat, countTo, offset}
+use Rattle.touch.specs.Touch.{Touch, optionalOf, present, point, flags, sides, orientation, pressure, optional, contact, frameHead, frame, touchHead, body}
+use Rattle.framing.specs.declared.BodyHead.{BodyHead}
+use Rattle.touch.proofs.Passes.{contactBy, frameBy}
 use Rattle.frame_records.proofs.Laws.{length-frame}
 use Rattle.machine.specs.Rules.{Rules}
 use Rattle.machine.specs.Table.{Table, contacts, active, one, withContact, countActive}
@@ -151,17 +154,17 @@ module _ (i : Integers) (h : Least i) where
   takes-offset false = h .u8
 
   takes-frame-head : (judged : Bool) → Takes 2 (frameHead i judged)
-  unfolding frameHead
+  unfolding frameHeadFormat
   takes-frame-head judged =
       takes-field _ (λ g. g .count) _ 1 1 (takes-such _ _ _ 1 (h .u2)) λ n.
       takes-field (offset i judged) (λ g. g .offset .0) _ 1 0 (takes-offset judged) λ o.
       takes-done _
 
   takes-touch-head : Takes 2 (touchHead i)
-  unfolding touchHead
+  unfolding bodyHeadFormat
   takes-touch-head =
       takes-field _ (λ g. g .time .0) _ 1 1 (h .u4) λ t.
-      takes-field (frameCount i) (λ g. g .frames) _ 1 0 (takes-such _ _ _ 1 (h .u2)) λ n.
+      takes-field (countTo i mostFrames) (λ g. g .frames) _ 1 0 (takes-such _ _ _ 1 (h .u2)) λ n.
       takes-done _
 
 -- ---- the weight of frames: one for each, and two for each contact
@@ -190,7 +193,7 @@ frames-take b zero l fs t h =
     omega (arith, ap length e, ap weight d)
 frames-take b (suc n) l fs t h =
     let m = more-got (frame strict) b n l fs t h in
-    let f = frame-got b l (m .head) (m .after) (m .one) in
+    let f = frame-got strict touchLimits (contact strict) b l (m .head) (m .after) (m .one) in
     let a = takes-frame-head strict least-strict b .least l _ (f .after) (f .head) in
     let c = contacts-take (length (m .head .contacts)) (f .after) (m .head .contacts) (m .after) (f .contacts) in
     let d = frames-take false n (m .after) (m .rest) t (m .others) in
@@ -198,13 +201,13 @@ frames-take b (suc n) l fs t h =
 
 -- a body's frames weigh at most half its bytes
 pub body-weight : (judged : Bool) (l : List ℕ) (m : Touch) (t : List ℕ) → body strict judged l ≡ got m t → 2 * weight (m .frames) ≤ length l
-unfolding touch
+unfolding bodyFormat
 body-weight judged l m t h = go (touchHead strict .read l) refl
   where
-    go : (x : Got TouchHead) → touchHead strict .read l ≡ x → 2 * weight (m .frames) ≤ length l
+    go : (x : Got BodyHead) → touchHead strict .read l ≡ x → 2 * weight (m .frames) ≤ length l
     go (bad e) w = formats.never e m t (rw w at h)
     go (got g u) w =
-        let b = body-got judged l m t g u h w in
+        let b = body-got strict touchLimits (contact strict) judged l m t g u h w in
         omega (arith, takes-touch-head strict least-strict .least l g u w, frames-take judged (g .frames) u (m .frames) [] (b .frames))
 
 weight-timed : (b : Bool) (fs : List (Frame Contact)) → weight (timedFrames b fs) ≡ weight fs

@@ -13,8 +13,9 @@ use Rattle.house.specs.Fields.{recordBytes}
 use Rattle.messages.specs.Bodies.{ready}
 use Rattle.house.specs.declared.Contact.{Contact}
 use Rattle.framing.specs.Frame.{Frame, timedFrames}
-use Rattle.touch.specs.Touch.{Touch, touchHeadOf, frame, body}
-use Rattle.touch.specs.declared.TouchHead.{TouchHead}
+use Rattle.framing.specs.Format.{bodyHeadOf}
+use Rattle.touch.specs.Touch.{Touch, frame, body}
+use Rattle.framing.specs.declared.BodyHead.{BodyHead}
 use Rattle.machine.specs.Table.{Table, contacts}
 use Rattle.machine.specs.Machine.{runBytes}
 use Rattle.runs.specs.Runs.{mostRecords}
@@ -80,7 +81,7 @@ pub record Carried (e : Effect) (before : List ℕ) (q : Received) (after : List
   pub output : after ≡ laid before (e .bytes)
 
 -- the frames of a head at the front of l, carried out where there is room
-pub record Carries (r : Receiver) (h : TouchHead) (l before : List ℕ) (q : Received) (after : List ℕ) : Type 0 where
+pub record Carries (r : Receiver) (h : BodyHead) (l before : List ℕ) (q : Received) (after : List ℕ) : Type 0 where
   pub whole : length (r .states) ≡ contacts
-  pub carried : (m : Touch) (rest : List ℕ) → h ≡ touchHeadOf m → readSeries (λ b. frame strict b .read) false (h .frames) l ≡ got (m .frames) rest
+  pub carried : (m : Touch) (rest : List ℕ) → h ≡ bodyHeadOf m → readSeries (λ b. frame strict b .read) false (h .frames) l ≡ got (m .frames) rest
       → length (touched r m .bytes) ≤ length before → Carried (touched r m) before q after

@@ -3,10 +3,10 @@ use crate::Answer;
 use crate::Marks;
 use crate::Turn;
 use crate::events::refuse;
+use framing::BodyHead;
 use paper::Milliseconds;
 use runs::Run;
 use touch::CheckedBody;
-use touch::TouchHead;
 ghost use mathlib.Core.Path.{_≡_};
 ghost use mathlib.Core.Bool.{cond, not};
 ghost use Rattle.contacts.specs.Ruling.{tableFrom, Counted};
@@ -142,7 +142,7 @@ fn has_room(
 // The frames of a message carried out: their records, the receiver after them, and the answer.
 fn carry_out(
     marks: Marks,
-    head: TouchHead,
+    head: BodyHead,
     frames: &[u8],
     output: &mut [u8],
     states: &mut [u8; 256],

@@ -2,20 +2,16 @@
 -- integers are strict it is written back to the same bytes.
 -- Assumes nothing.
 use Prim.Native.Nat.{ℕ}
-use mathlib.Core.Path.{_≡_, ap}
-use mathlib.Core.Bool.{Bool, true, false}
-use lib.ListN.{length}
-use Rattle.formats.specs.Format.{Each}
-use Rattle.formats.proofs.Laws.{Law, done-law, field-law, such-law, when-law, series-law, times-law, byte-law, each-length}
+use mathlib.Core.Path.{ap}
+use mathlib.Core.Bool.{Bool}
+use Rattle.formats.proofs.Laws.{Law, done-law, field-law, such-law, when-law, byte-law}
 use Rattle.fields.specs.Integers.{Integers, strict}
 use Rattle.fields.proofs.Laws.{IntegersLaw, strict-law}
 use Rattle.house.specs.WellFormed.{has}
 use Rattle.house.specs.Fits.{noSides}
-use Rattle.house.specs.declared.Contact.{Contact}
-use Rattle.framing.specs.Frame.{Frame, headOf}
-use Rattle.touch.specs.Touch.{Touch, optionalOf, touchHeadOf, present, point, flags, sides, orientation, pressure, optional, contact, offset, frameHead, frame, frameCount, touchHead, touch}
-use Rattle.house.specs.declared.Head.{Head}
-use Rattle.touch.specs.declared.TouchHead.{TouchHead}
+use Rattle.framing.proofs.Laws.{body-law}
+use Rattle.touch.specs.Limits.{touchLimits}
+use Rattle.touch.specs.Touch.{optionalOf, present, point, flags, sides, orientation, pressure, optional, contact, touch}
 
 module _ {X : Type 0} (i : Integers) (h : IntegersLaw X i) where
   pub point-law : Law X (point i)
@@ -52,49 +48,8 @@ module _ {X : Type 0} (i : Integers) (h : IntegersLaw X i) where
       field-law _ _ _ (optional-law p) (λ a b e. ap optionalOf e) λ o.
       done-law _
 
-  pub offset-law : (judged : Bool) → Law X (offset i judged)
-  offset-law true = such-law _ _ _ (h .u8)
-  offset-law false = h .u8
-
-  pub frame-head-law : (judged : Bool) → Law X (frameHead i judged)
-  unfolding frameHead
-  frame-head-law judged =
-      field-law _ _ _ (such-law _ _ _ (h .u2)) (λ n b e. ap (λ h. h .count) (e .1)) λ n.
-      field-law (offset i judged) _ _ (offset-law judged) (λ o b e. ap (λ h. h .offset .0) e) λ o.
-      done-law _
-
-  pub frame-law : (judged : Bool) → Law X (frame i judged)
-  unfolding frame
-  frame-law judged =
-      field-law (frameHead i judged) headOf _ (frame-head-law judged) frame-finds λ h.
-      field-law _ _ _ (times-law _ (h .count) contact-law) (λ cs b e. ap (λ f. f .contacts) e) λ cs.
-      done-law _
-    where
-      frame-finds : (g : Head) (b : Frame Contact) → Each (λ k. contact i .Holds) false (g .count) (b .contacts) × (b ≡ record { offset = g .offset; contacts = b .contacts }) → headOf b ≡ g
-      frame-finds g b e =
-          let n : length (b .contacts) ≡ g .count = each-length _ false (g .count) (b .contacts) (e .0) in
-          let o : b .offset ≡ g .offset = ap (λ f. f .offset) (e .1) in
-          λ j. record { count = n j; offset = o j }
-
-  pub touch-head-law : Law X (touchHead i)
-  unfolding touchHead
-  touch-head-law =
-      field-law _ _ _ (h .u4) (λ t b e. ap (λ h. h .time .0) (e .1)) λ t.
-      field-law (frameCount i) _ _ (such-law _ _ _ (h .u2)) (λ n b e. ap (λ h. h .frames) e) λ n.
-      done-law _
-
   pub touch-law : (judged : Bool) → Law X (touch i judged)
-  unfolding touch
-  touch-law judged =
-      field-law (touchHead i) touchHeadOf _ touch-head-law touch-finds λ h.
-      field-law _ _ _ (series-law (frame i) judged (h .frames) frame-law) (λ fs b e. ap (λ m. m .frames) e) λ fs.
-      done-law _
-    where
-      touch-finds : (g : TouchHead) (b : Touch) → Each (λ k. frame i k .Holds) judged (g .frames) (b .frames) × (b ≡ record { time = g .time; frames = b .frames }) → touchHeadOf b ≡ g
-      touch-finds g b e =
-          let n : length (b .frames) ≡ g .frames = each-length _ judged (g .frames) (b .frames) (e .0) in
-          let o : b .time ≡ g .time = ap (λ f. f .time) (e .1) in
-          λ j. record { time = o j; frames = n j }
+  touch-law = body-law i h touchLimits (contact i) contact-law
 
 pub strict-touch-law : (judged : Bool) → Law (Unit {0}) (touch strict judged)
 strict-touch-law = touch-law strict strict-law

@@ -1,7 +1,6 @@
 pub mod Laws
 pub mod Order
 pub mod Reading
-pub mod Body
 pub mod Passes
 pub mod Ranges
 pub mod Unique

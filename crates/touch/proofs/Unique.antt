@@ -10,7 +10,7 @@ use Rattle.formats.specs.Format.{Got, got, bad, Format, times}
 use Rattle.formats.specs.Answer.{Answers, skip}
 use Rattle.formats.proofs.Laws.{never}
 use Rattle.fields.specs.Integers.{strict}
-use Rattle.touch.specs.declared.TouchHead.{TouchHead}
+use Rattle.framing.specs.declared.BodyHead.{BodyHead}
 use Rattle.touch.specs.declared.ReadContact.{ReadContact}
 use Rattle.touch.specs.declared.ReadContact.the-variants as ReadContact
 use Rattle.touch.specs.declared.ReadHead.{ReadHead}
@@ -70,7 +70,7 @@ module _ (l : List ℕ) where
 
   -- ---- the whole body
 
-  begin-unique : (h : TouchHead) (m n : ℕ) → FramesAt l h m → FramesAt l h n → m ≡ n
+  begin-unique : (h : BodyHead) (m n : ℕ) → FramesAt l h m → FramesAt l h n → m ≡ n
   begin-unique h m n a b =
       let e : drop m l ≡ drop n l = let p = a .head in let q = b .head in cc in
       sym (gone m l (a .inside)) ∙ ap (λ (t : List ℕ). length l - length t) e ∙ gone n l (b .inside)

@@ -6,13 +6,14 @@ use mathlib.Core.List.{List, []}
 use lib.ListN.{length, drop}
 use Rattle.formats.specs.Format.{Got, got, bad}
 use Rattle.fields.specs.Integers.{strict}
-use Rattle.touch.specs.Touch.{Touch, touchHeadOf, touchHead, body}
+use Rattle.framing.specs.Format.{summary}
+use Rattle.framing.specs.declared.BodyHead.{BodyHead}
+use Rattle.touch.specs.Touch.{touchHead, body}
 use Rattle.house.specs.declared.Point.{Point}
 use Rattle.house.specs.declared.Sides.{Sides}
 use Rattle.house.specs.declared.Contact.{Contact}
 use Rattle.house.specs.declared.Head.{Head}
 use Rattle.touch.specs.declared.Optional.{Optional}
-use Rattle.touch.specs.declared.TouchHead.{TouchHead}
 use Rattle.touch.specs.declared.ReadPoint.{ReadPoint}
 use Rattle.touch.specs.declared.ReadPoint.the-variants as ReadPoint
 use Rattle.touch.specs.declared.ReadSides.{ReadSides}
@@ -90,7 +91,7 @@ abbrev pub headRefusal : ReadHead → ℕ
 headRefusal (ReadHead.Value a n) = 0
 headRefusal (ReadHead.Refused e) = e
 
-abbrev pub touchHeadGot : ReadTouchHead → List ℕ → Got TouchHead
+abbrev pub touchHeadGot : ReadTouchHead → List ℕ → Got BodyHead
 touchHeadGot (ReadTouchHead.Value a n) l = got a (drop n l)
 touchHeadGot (ReadTouchHead.Refused e) l = bad e
 
@@ -116,12 +117,7 @@ endRefusal (End.Refused e) = e
 
 -- ---- the whole body
 
--- a body, without its frames
-abbrev pub summary : Got Touch → Got TouchHead
-summary (got m t) = got (touchHeadOf m) t
-summary (bad e) = bad e
-
-abbrev pub checkedGot : CheckedBody → Got TouchHead
+abbrev pub checkedGot : CheckedBody → Got BodyHead
 checkedGot (CheckedBody.Body h at) = got h []
 checkedGot (CheckedBody.Refused e) = bad e
 
@@ -130,7 +126,7 @@ checkedRefusal (CheckedBody.Body h at) = 0
 checkedRefusal (CheckedBody.Refused e) = e
 
 -- the frames begin at at
-pub record FramesAt (l : List ℕ) (h : TouchHead) (at : ℕ) : Type 0 where
+pub record FramesAt (l : List ℕ) (h : BodyHead) (at : ℕ) : Type 0 where
   pub head : touchHead strict .read l ≡ got h (drop at l)
   pub inside : at ≤ length l
 

@@ -2,13 +2,12 @@
 -- contactCount U2, frameOffset U8, contacts. A contact: id 1 byte, fieldsPresent U2, x S4, y S4, contactFlags U4; then if bit 1, four S2 (left,
 -- top, right, bottom); if bit 2, orientation U4, 0 to 359; if bit 4, pressure U4, 0 to 65000."
 use Prim.Native.Nat.{ℕ}
-use mathlib.Core.Bool.{Bool, true, false}
+use mathlib.Core.Bool.{Bool}
 use mathlib.Core.List.{List}
-use lib.Dec.{ltb, leb, eqb}
-use lib.ListN.{length}
-use Rattle.paper.specs.Refusals.{badCount, badField, badFlags, badRange, badOffset, trailing}
+use lib.Dec.{ltb, leb}
+use Rattle.paper.specs.Refusals.{badField, badFlags, badRange}
 use Rattle.states.specs.Table.{listed}
-use Rattle.formats.specs.Format.{Got, Format, done, field, such, when, series, times, byte, whole}
+use Rattle.formats.specs.Format.{Got, Format, done, field, such, when, byte}
 use Rattle.fields.specs.Integers.{Integers}
 use Rattle.house.specs.Layout.{contactBytes, touched}
 use Rattle.house.specs.WellFormed.{has, orientationMost, pressureMost}
@@ -17,10 +16,11 @@ use Rattle.house.specs.declared.Head.{Head}
 use Rattle.house.specs.declared.Point.{Point}
 use Rattle.house.specs.declared.Sides.{Sides}
 use Rattle.house.specs.declared.Contact.{Contact}
-use Rattle.framing.specs.Frame.{Frame, Body, headOf}
+use Rattle.framing.specs.Frame.{Frame, Body}
+use Rattle.framing.specs.Format.{frameHeadFormat, bodyHeadFormat, frameFormat, bodyFormat, wholeBody}
+use Rattle.framing.specs.declared.BodyHead.{BodyHead}
 use Rattle.touch.specs.declared.Optional.{Optional}
-use Rattle.touch.specs.declared.TouchHead.{TouchHead}
-use Rattle.touch.specs.Limits.{mostFrames, mostContacts}
+use Rattle.touch.specs.Limits.{touchLimits}
 
 -- a touch message's body, and the record of a frame's contact
 abbrev pub Touch : Type 0
@@ -32,10 +32,6 @@ touchRecord = contactBytes touched
 -- the optional fields of a contact
 abbrev pub optionalOf : Contact → Optional
 optionalOf c = record { sides = c .sides; orientation = c .orientation; pressure = c .pressure }
-
--- what stands before a message's frames
-abbrev pub touchHeadOf : Touch → TouchHead
-touchHeadOf m = record { time = m .time; frames = length (m .frames) }
 
 module _ (i : Integers) where
   -- ---- a contact
@@ -84,44 +80,19 @@ module _ (i : Integers) where
       field (optional p) optionalOf λ o.
       done (record { flags = f; present = p; id = id; place = place; sides = o .sides; orientation = o .orientation; pressure = o .pressure })
 
-  -- ---- frames
+  -- ---- frames, and the body
 
-  abbrev pub contactCount : Format ℕ
-  contactCount = such (i .u2) (λ n. leb n mostContacts) badCount
+  abbrev pub frameHead : Bool → Format Head
+  frameHead = frameHeadFormat i touchLimits
 
-  -- where 11 is judged, a frame's offset is 0
-  abbrev pub offset : Bool → Format ℕ
-  offset true = such (i .u8) (λ o. eqb o 0) badOffset
-  offset false = i .u8
+  abbrev pub frame : Bool → Format (Frame Contact)
+  frame = frameFormat i touchLimits contact
 
-  unfoldable pub frameHead : Bool → Format Head
-  frameHead judged =
-      field contactCount (λ h. h .count) λ n.
-      field (offset judged) (λ h. h .offset .0) λ o.
-      done (record { count = n; offset = record { 0 = o } })
+  abbrev pub touchHead : Format BodyHead
+  touchHead = bodyHeadFormat i touchLimits
 
-  unfoldable pub frame : Bool → Format (Frame Contact)
-  frame judged =
-      field (frameHead judged) headOf λ h.
-      field (times (h .count) contact) (λ f. f .contacts) λ cs.
-      done (record { offset = h .offset; contacts = cs })
-
-  -- ---- the body; 11 is judged on the first frame alone, where it is judged
-
-  abbrev pub frameCount : Format ℕ
-  frameCount = such (i .u2) (λ n. leb n mostFrames) badCount
-
-  unfoldable pub touchHead : Format TouchHead
-  touchHead =
-      field (i .u4) (λ h. h .time .0) λ t.
-      field frameCount (λ h. h .frames) λ n.
-      done (record { time = record { 0 = t }; frames = n })
-
-  unfoldable pub touch : Bool → Format Touch
-  touch judged =
-      field touchHead touchHeadOf λ h.
-      field (series frame judged (h .frames)) (λ m. m .frames) λ fs.
-      done (record { time = h .time; frames = fs })
+  abbrev pub touch : Bool → Format Touch
+  touch = bodyFormat i touchLimits contact
 
   abbrev pub body : Bool → List ℕ → Got Touch
-  body judged = whole (touch judged) trailing
+  body = wholeBody i touchLimits contact

@@ -6,27 +6,26 @@ use crate::FRAMES_MOST;
 use crate::ReadContact;
 use crate::ReadHead;
 use crate::ReadTouchHead;
-use crate::TouchHead;
 use crate::contact::read_contact;
+use framing::BodyHead;
 use house::Head;
 use integers::ReadU2;
 use integers::ReadU4;
 use integers::ReadU8;
 use paper::Microseconds;
 use paper::Milliseconds;
-ghost use lib.Dec.{leb};
-ghost use Rattle.paper.specs.Refusals.{badCount};
 ghost use Rattle.formats.specs.Answer.{Answers, skip};
-ghost use Rattle.formats.specs.Format.{such, series, times};
+ghost use Rattle.formats.specs.Format.{series, times};
 ghost use Rattle.fields.specs.Integers.{strict};
 ghost use Rattle.fields.specs.Answer.{lengthOf, u2Got, u8Got};
 ghost use Rattle.integers.specs.Answer.{u2Of, u8Of};
-ghost use Rattle.touch.specs.Touch.{contact, offset, frameHead, frame, touchHead};
+ghost use Rattle.framing.specs.Format.{countTo, offset};
+ghost use Rattle.touch.specs.Touch.{contact, frameHead, frame, touchHead};
 ghost use Rattle.touch.specs.Answer.{headGot, headLength, touchHeadGot, touchHeadLength, endGot, endLength, Checks};
 
 // contactCount and frameCount: at most so many.
 fn read_count(rest: &[u8], most: u16) -> ReadU2
-    ensures { λ r. ⌜ Answers (such (strict .u2) (λ n. leb n most) badCount) (now (rest .entry)) (u2Got r (now (rest .entry))) (lengthOf (u2Of r)) ⌝ }
+    ensures { λ r. ⌜ Answers (countTo strict most) (now (rest .entry)) (u2Got r (now (rest .entry))) (lengthOf (u2Of r)) ⌝ }
 {
     let got = integers::read_u2(rest);
     let ReadU2::Value(n, _) = got else {
@@ -64,12 +63,12 @@ pub fn read_frame_head(rest: &[u8], judged: bool) -> ReadHead
         return ReadHead::Refused(got_count.refusal());
     };
     let got_offset = read_offset(&rest[at_offset..], judged);
-    let ReadU8::Value(offset, n) = got_offset else {
+    let ReadU8::Value(micros, n) = got_offset else {
         return ReadHead::Refused(got_offset.refusal());
     };
     let found = Head {
         count: count,
-        offset: Microseconds(offset),
+        offset: Microseconds(micros),
     };
     ReadHead::Value(found, at_offset + n)
 }
@@ -139,7 +138,7 @@ pub fn read_touch_head(rest: &[u8]) -> ReadTouchHead
     };
     let frames = count as u8;
     let end = at_count + n;
-    let found = TouchHead {
+    let found = BodyHead {
         time: Milliseconds(time),
         frames: frames,
     };

@@ -8,11 +8,11 @@ pub use frames::check_body;
 pub use frames::read_frame_head;
 pub use frames::read_touch_head;
 pub use frames::skip_contacts;
+use framing::BodyHead;
 use house::Contact;
 use house::Head;
 use house::Point;
 use house::Sides;
-use paper::Milliseconds;
 ghost use mathlib.Core.Path.{_≡_};
 ghost use Rattle.touch.specs.Answer.{pointRefusal, sidesRefusal, optionalRefusal, contactRefusal, headRefusal, touchHeadRefusal, endRefusal, checkedRefusal};
 
@@ -26,12 +26,6 @@ pub(crate) struct Optional {
     pub sides: Sides,
     pub orientation: u16,
     pub pressure: u16,
-}
-
-// What stands before a message's frames: encodeTime, and how many frames follow.
-pub struct TouchHead {
-    pub time: Milliseconds,
-    pub frames: u8,
 }
 
 // What the readers answer: a value and how many bytes it takes, or a refusal's number.
@@ -61,7 +55,7 @@ pub enum ReadHead {
 }
 
 pub enum ReadTouchHead {
-    Value(TouchHead, usize),
+    Value(BodyHead, usize),
     Refused(u8),
 }
 
@@ -73,7 +67,7 @@ pub enum End {
 
 // A whole body: what stands before its frames and where they begin, or the first fault.
 pub enum CheckedBody {
-    Body(TouchHead, usize),
+    Body(BodyHead, usize),
     Refused(u8),
 }
 

@@ -17,6 +17,8 @@ use Rattle.house.specs.declared.Head.{Head}
 use Rattle.house.specs.declared.Contact.{Contact}
 use Rattle.house.proofs.WellFormed.{in-range}
 use Rattle.framing.specs.Frame.{Frame, headOf}
+use Rattle.fields.proofs.Laws.{strict-range}
+use Rattle.framing.specs.Format.{frameFormat, frameHeadFormat}
 use Rattle.touch.specs.Limits.{mostContacts}
 use Rattle.touch.specs.Touch.{point, sides, orientation, pressure, optional, contact, frameHead, frame}
 use Rattle.touch.proofs.Ranges.{contact-fits, contact-well, frame-holds}
@@ -33,11 +35,11 @@ each-held P Q h (suc n) (a ∷ s) e = (h a (e .0), each-held P Q h n s (e .1))
 -- ---- what a message holds, records hold
 
 pub contact-packs : (c : Contact) → contact strict .Holds c → contactRecord .Holds c
-contact-packs c h = (contact-fits c h, contact-well c h)
+contact-packs c h = (contact-fits strict strict-range c h, contact-well strict strict-range c h)
 
 pub frame-packs : (f : Frame Contact) → frame strict false .Holds f → frameRecords .Holds f
-unfolding frame frameRecords
-frame-packs f h = (frame-holds false f h, (each-held (λ b. contact strict .Holds) (λ b. contactRecord .Holds) contact-packs _ (f .contacts) (h .1 .0), refl))
+unfolding frameFormat frameRecords
+frame-packs f h = (frame-holds strict strict-range false f h, (each-held (λ b. contact strict .Holds) (λ b. contactRecord .Holds) contact-packs _ (f .contacts) (h .1 .0), refl))
 
 pub frames-pack : (n : ℕ) (fs : List (Frame Contact)) → Each (λ b. frame strict b .Holds) false n fs → Each (λ b. frameRecords .Holds) false n fs
 frames-pack = each-held (λ b. frame strict b .Holds) (λ b. frameRecords .Holds) frame-packs
@@ -78,13 +80,13 @@ contact-writes c h =
     )
 
 pub head-writes : (h : Head) → HeadFits h → frameHead strict false .Holds h
-unfolding frameHead
+unfolding frameHeadFormat
 head-writes h f =
     let n = f .count in
     ((omega (arith, n), le-leb (h .count) mostContacts (omega (arith, n))), (f .offset, refl))
 
 pub frame-writes : (f : Frame Contact) → frameRecords .Holds f → frame strict false .Holds f
-unfolding frame frameRecords
+unfolding frameFormat frameRecords
 frame-writes f h =
     (head-writes (headOf f) (h .0), (each-held (λ b. contactRecord .Holds) (λ b. contact strict .Holds) contact-writes _ (f .contacts) (h .1 .0), refl))
 

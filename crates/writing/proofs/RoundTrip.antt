@@ -22,7 +22,8 @@ use Rattle.messages.proofs.Laws.{header-long, message-got, message-back, messag
 use Rattle.touch.specs.Limits.{mostFrames}
 use Rattle.house.specs.declared.Contact.{Contact}
 use Rattle.framing.specs.Frame.{Frame, framesBytes}
-use Rattle.touch.specs.Touch.{Touch, touch, touchHead, touchRecord}
+use Rattle.framing.specs.Format.{bodyFormat, bodyHeadFormat}
+use Rattle.touch.specs.Touch.{Touch, touch, touchRecord}
 use Rattle.touch.proofs.Laws.{strict-touch-law}
 use Rattle.frame_records.specs.Records.{framesIn}
 use Rattle.reading.specs.Plain.{plainly}
@@ -38,12 +39,12 @@ pub record Body (m : Touch) : Type 0 where
   pub frames : FramesFit (m .frames)
 
 body-is : (m : Touch) → touch strict false .Holds m → Body m
-unfolding touch touchHead
+unfolding bodyFormat bodyHeadFormat
 body-is m h =
     record { time = h .0 .0; count = leb-true _ _ (h .0 .1 .0 .1); frames = frames-pack (length (m .frames)) (m .frames) (h .1 .0) }
 
 body-holds : (m : Touch) → Body m → touch strict false .Holds m
-unfolding touch touchHead
+unfolding bodyFormat bodyHeadFormat
 body-holds m b =
     let n = b .count in
     ((b .time, ((omega (arith, n), le-leb _ _ n), refl)), (frames-write (length (m .frames)) (m .frames) (b .frames), refl))

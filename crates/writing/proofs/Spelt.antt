@@ -22,6 +22,7 @@ use Rattle.house.proofs.Round.{length-head, length-contact, record-of-head, rec
 use Rattle.messages.specs.Header.{header, headerBytes, writeMessage}
 use Rattle.messages.specs.Header as event
 use Rattle.framing.specs.Frame.{Frame, headOf, contactsBytes, frameBytes, framesBytes}
+use Rattle.framing.specs.Format.{bodyFormat, frameFormat}
 use Rattle.touch.specs.Touch.{contact, frame, touch, touchRecord}
 use Rattle.frame_records.specs.Records.{contactRecord, frameRecords, framesIn}
 use Rattle.writing.specs.TouchDraft.{messageOf}
@@ -86,7 +87,7 @@ contacts-more (c ∷ cs) (suc m) n t s h k =
     (one-more (m + n) (contactBytes touched c) (contactsBytes touchRecord cs ++ t) (writeSeries (λ b. contact strict .write) false cs ++ s) (Record.Contact touched c) (length-contact touched c) r (contact-writes c (h .0)) (contacts-more cs m n t s (h .1) k))
 
 frame-more : (f : Frame Contact) (n : ℕ) (t s : List ℕ) → frameRecords .Holds f → SpeltAs n t s → SpeltAs (suc (length (f .contacts) + n)) (frameBytes touchRecord f ++ t) (frame strict false .write f ++ s)
-unfolding frameBytes frame frameRecords
+unfolding frameBytes frameFormat frameRecords
 frame-more f n t s h k =
     let c = contacts-more (f .contacts) (length (f .contacts)) n t s (h .1 .0) k in
     let r = record-of-head (headOf f) (contactsBytes touchRecord (f .contacts) ++ t) (h .0) in
@@ -111,7 +112,7 @@ pub record Spelling (time : Milliseconds) (l : List ℕ) (fs : List (Frame Conta
   pub same : messageOf time fs ≡ header event.touch (headerBytes + length (bodyOf time (length fs) (length l / 21) l)) ++ bodyOf time (length fs) (length l / 21) l
 
 pub spelling-of : (time : Milliseconds) (l : List ℕ) (fs : List (Frame Contact)) (t : List ℕ) → Bytes l → framesIn l ≡ got fs t → Spelling time l fs
-unfolding writeMessage touch
+unfolding writeMessage bodyFormat
 spelling-of time l fs t b e =
     let r = frames-read l fs t b e in
     let k : SpeltAs (count fs) l (writeSeries (λ b. frame strict b .write) false fs) = rw (r .same) (frames-spelt fs (length fs) (r .fit)) in

@@ -11,7 +11,7 @@ use Rattle.formats.specs.Format.{got}
 use Rattle.formats.proofs.Steps.{tail}
 use Rattle.framing.specs.Frame.{framesBytes}
 use Rattle.touch.specs.Touch.{touchRecord}
-use Rattle.touch.specs.declared.TouchHead.{TouchHead}
+use Rattle.framing.specs.declared.BodyHead.{BodyHead}
 use Rattle.frame_records.specs.Frames.{recordsIn}
 use Rattle.frame_records.proofs.Laws.{length-frames}
 use Rattle.reading.specs.Passes.{frames, Reads}
@@ -23,7 +23,7 @@ use Rattle.reading.proofs.plain.Tie as tie
 abbrev lent : tie.After-known-told → List ℕ
 lent c = now (c .before .before .before .before .before .before .args .message)
 
-abbrev head : tie.After-known-told → TouchHead
+abbrev head : tie.After-known-told → BodyHead
 head c = c .before .judged .given .0 .0
 
 abbrev at : tie.After-known-told → ℕ
@@ -113,7 +113,7 @@ returns-3 c =
     let r = w .before .before .before .before in
     let k = accepted (r .before .before) in
     let n = room r in
-    let t = ap (λ (h : TouchHead). h .time) (k .head) in
+    let t = ap (λ (h : BodyHead). h .time) (k .head) in
     plain-read _ _ _ _ (k .message) (k .read) (omega arith) (λ i. record { refusal = 0; time = t i; records = counted r i }) (w .write-frames .ensures (k .message .frames) [] (frames-read (r .before .before)))
 
 pub plain-spec : {M : Type 1} → statement M

@@ -13,11 +13,12 @@ use Rattle.formats.specs.Format.{Format, andThen, ended, series}
 use Rattle.formats.specs.Answer.{skip}
 use Rattle.formats.proofs.Steps.{step, stop, Stepped, ended-bad, ended-got}
 use Rattle.fields.specs.Integers.{strict}
-use Rattle.touch.specs.declared.TouchHead.{TouchHead}
-use Rattle.touch.specs.Touch.{frame, touchHead, touch, body}
-use Rattle.touch.specs.Answer.{summary}
+use Rattle.framing.specs.Format.{bodyFormat, summary}
+use Rattle.framing.specs.declared.BodyHead.{BodyHead}
+use Rattle.touch.specs.Touch.{frame, touchHead, body, contact}
 use Rattle.touch.proofs.Reading.{first}
-use Rattle.touch.proofs.Body.{body-end}
+use Rattle.framing.proofs.Reading.{body-end}
+use Rattle.touch.specs.Limits.{touchLimits}
 use Rattle.touch.proofs.frames.check_body.Statement.{statement}
 use Rattle.touch.proofs.frames.check_body.Tie as tie
 
@@ -28,7 +29,7 @@ lent c = now (c .before .before .before .before .before .args .rest)
 abbrev judged : tie.After-known-told → Bool
 judged c = c .before .before .before .before .before .args .judged
 
-abbrev head : tie.After-known-told → TouchHead
+abbrev head : tie.After-known-told → BodyHead
 head c = c .before .got-head .given .0 .0
 
 abbrev at : tie.After-known-told → ℕ
@@ -53,7 +54,7 @@ frames-read c = step (frames (up c)) (lent (up c)) (at (up c)) _ _ (head-read (u
 -- what is left of the body is whether bytes are left
 left : (c : tie.After-known-told2) → summary (body strict (judged (up c)) (lent (up c))) ≡ ended trailing (head (up c)) (drop (at-end c) (lent (up c)))
 left c =
-    body-end (judged (up c)) (lent (up c)) (head (up c)) _ (head-read (up c) .reads) ∙ ap (λ x. andThen x (λ a u. ended trailing (head (up c)) u)) (frames-read c .reads)
+    body-end strict touchLimits (contact strict) (judged (up c)) (lent (up c)) (head (up c)) _ (head-read (up c) .reads) ∙ ap (λ x. andThen x (λ a u. ended trailing (head (up c)) u)) (frames-read c .reads)
 
 read-touch-head-requires : tie.Need-read-touch-head-requires
 read-touch-head-requires c κs = search needs
@@ -68,7 +69,7 @@ refusal-requires : tie.Need-refusal-requires
 refusal-requires c κs = search needs
 
 returns : tie.Need-returns
-unfolding touch
+unfolding bodyFormat
 returns c =
     let t = c .before .enum-told .given .1 in
     let w = rw t at (c .before .before .before .read-touch-head .ensures) in
@@ -104,7 +105,7 @@ returns-2 c =
     let r = c .before .before .before in
     let k = r .before .before .before in
     let b = stop (frames k) (lent k) (at k) _ _ (rw t at (r .skip-frames .ensures)) in
-    record { same = rw (c .refusal2 .ensures, t) (sym (body-end (judged k) (lent k) (head k) _ (head-read k .reads) ∙ rw b)); begins = tt }
+    record { same = rw (c .refusal2 .ensures, t) (sym (body-end strict touchLimits (contact strict) (judged k) (lent k) (head k) _ (head-read k .reads) ∙ rw b)); begins = tt }
 
 add-if1 : tie.Need-add-if1
 add-if1 c = omega (arith, frames-read c .ends)

@@ -9,7 +9,8 @@ use denote.Ref.{now}
 use mathlib.Core.Bool.{Bool}
 use Rattle.formats.proofs.Steps.{step, stop, Stepped}
 use Rattle.fields.specs.Integers.{strict}
-use Rattle.touch.specs.Touch.{contactCount, offset, frameHead}
+use Rattle.touch.specs.Limits.{mostContacts}
+use Rattle.framing.specs.Format.{frameHeadFormat, countTo, offset}
 use Rattle.touch.proofs.Reading.{first}
 use Rattle.touch.proofs.frames.read_frame_head.Statement.{statement}
 use Rattle.touch.proofs.frames.read_frame_head.Tie as tie
@@ -30,8 +31,8 @@ up c = c .before .before .before .before .before
 abbrev at-end : tie.After-known-told2 → ℕ
 at-end c = at-offset (up c) + c .before .got-offset .given .0 .1 .0
 
-count-read : (c : tie.After-known-told) → Stepped (contactCount strict) (lent c) 0 (c .before .got-count .given .0 .0) (at-offset c)
-count-read c = first (contactCount strict) (lent c) _ _ (rw (c .before .got-count .given .1) at (c .before .before .before .read-count .ensures))
+count-read : (c : tie.After-known-told) → Stepped (countTo strict mostContacts) (lent c) 0 (c .before .got-count .given .0 .0) (at-offset c)
+count-read c = first (countTo strict mostContacts) (lent c) _ _ (rw (c .before .got-count .given .1) at (c .before .before .before .read-count .ensures))
 
 offset-read : (c : tie.After-known-told2) → Stepped (offset strict (judged (up c))) (lent (up c)) (at-offset (up c)) (c .before .got-offset .given .0 .0) (at-end c)
 offset-read c =
@@ -50,7 +51,7 @@ refusal-requires : tie.Need-refusal-requires
 refusal-requires c κs = search needs
 
 returns : tie.Need-returns
-unfolding frameHead
+unfolding frameHeadFormat
 returns c =
     let t = c .before .enum-told .given .1 in
     let w = rw t at (c .before .before .before .read-count .ensures) in
@@ -78,7 +79,7 @@ refusal-requires-2 : tie.Need-refusal-requires-2
 refusal-requires-2 c κs = search needs
 
 returns-2 : tie.Need-returns-2
-unfolding frameHead
+unfolding frameHeadFormat
 returns-2 c =
     let t = c .before .enum-told2 .given .1 in
     let r = c .before .before .before in
@@ -90,7 +91,7 @@ add-t12 : tie.Need-add-t12
 add-t12 c = omega (arith, offset-read c .ends)
 
 returns-3 : tie.Need-returns-3
-unfolding frameHead
+unfolding frameHeadFormat
 returns-3 c = record { same = sym (rw (count-read (up c) .reads, offset-read c .reads)); inside = offset-read c .ends }
 
 pub read-frame-head-spec : {M : Type 1} → statement M

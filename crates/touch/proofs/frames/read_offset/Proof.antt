@@ -18,7 +18,7 @@ use Rattle.integers.specs.Answer.{u8Of}
 use Rattle.integers.specs.declared.ReadU8.{ReadU8}
 use Rattle.integers.specs.declared.ReadU8.the-variants as U8
 use Rattle.fields.proofs.Answers.{u8-answers}
-use Rattle.touch.specs.Touch.{offset}
+use Rattle.framing.specs.Format.{offset}
 use Rattle.touch.proofs.Reading.{test-before, test-holds, test-fails}
 use Rattle.touch.proofs.frames.read_offset.Statement.{statement}
 use Rattle.touch.proofs.frames.read_offset.Tie as tie

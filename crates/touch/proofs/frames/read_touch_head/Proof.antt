@@ -12,8 +12,8 @@ use Rattle.paper.specs.Refusals.{badCount}
 use Rattle.formats.proofs.Steps.{step, stop, Stepped}
 use Rattle.fields.specs.Integers.{strict}
 use Rattle.fields.proofs.Answers.{u4-answers}
+use Rattle.framing.specs.Format.{bodyHeadFormat, countTo}
 use Rattle.touch.specs.Limits.{mostFrames}
-use Rattle.touch.specs.Touch.{frameCount, touchHead}
 use Rattle.touch.proofs.Reading.{first, passed}
 use Rattle.touch.proofs.frames.read_touch_head.Statement.{statement}
 use Rattle.touch.proofs.frames.read_touch_head.Tie as tie
@@ -36,9 +36,9 @@ time-read c =
     let r = c .before .before .before in
     first (strict .u4) (lent c) _ _ (rw (c .before .got-time .given .1) at (u4-answers (lent c) (r .read-u4 .result) (r .read-u4 .ensures)))
 
-count-read : (c : tie.After-known-told2) → Stepped (frameCount strict) (lent (up c)) (at-count (up c)) (c .before .got-count .given .0 .0) (at-end c)
+count-read : (c : tie.After-known-told2) → Stepped (countTo strict mostFrames) (lent (up c)) (at-count (up c)) (c .before .got-count .given .0 .0) (at-end c)
 count-read c =
-    step (frameCount strict) (lent (up c)) (at-count (up c)) _ _ (time-read (up c) .ends) (rw (c .before .got-count .given .1) at (c .before .before .before .read-count .ensures))
+    step (countTo strict mostFrames) (lent (up c)) (at-count (up c)) _ _ (time-read (up c) .ends) (rw (c .before .got-count .given .1) at (c .before .before .before .read-count .ensures))
 
 read-u4-requires : tie.Need-read-u4-requires
 read-u4-requires c κs = search needs
@@ -53,7 +53,7 @@ refusal-requires : tie.Need-refusal-requires
 refusal-requires c κs = search needs
 
 returns : tie.Need-returns
-unfolding touchHead
+unfolding bodyHeadFormat
 returns c =
     let t = c .before .enum-told .given .1 in
     let r = c .before .before .before in
@@ -82,12 +82,12 @@ refusal-requires-2 : tie.Need-refusal-requires-2
 refusal-requires-2 c κs = search needs
 
 returns-2 : tie.Need-returns-2
-unfolding touchHead
+unfolding bodyHeadFormat
 returns-2 c =
     let t = c .before .enum-told2 .given .1 in
     let r = c .before .before .before in
     let k = r .before .before in
-    let b = stop (frameCount strict) (lent k) (at-count k) _ _ (rw t at (r .read-count .ensures)) in
+    let b = stop (countTo strict mostFrames) (lent k) (at-count k) _ _ (rw t at (r .read-count .ensures)) in
     record { same = rw (c .refusal2 .ensures, t, time-read k .reads, b); inside = omega arith }
 
 cast-frames : tie.Need-cast-frames
@@ -99,7 +99,7 @@ add-end : tie.Need-add-end
 add-end c = omega (arith, count-read c .ends)
 
 returns-3 : tie.Need-returns-3
-unfolding touchHead
+unfolding bodyHeadFormat
 returns-3 c = record { same = sym (rw (time-read (up c) .reads, count-read c .reads)); inside = count-read c .ends }
 
 pub read-touch-head-spec : {M : Type 1} → statement M

@@ -11,10 +11,12 @@ use Rattle.formats.specs.Format.{times}
 use Rattle.formats.specs.Answer.{skip}
 use Rattle.formats.proofs.Steps.{step, stop, Stepped}
 use Rattle.fields.specs.Integers.{strict}
+use Rattle.framing.specs.Format.{frameFormat}
 use Rattle.house.specs.declared.Head.{Head}
-use Rattle.touch.specs.Touch.{contact, frameHead, frame}
+use Rattle.touch.specs.Touch.{contact, frameHead}
 use Rattle.touch.proofs.Reading.{first}
-use Rattle.touch.proofs.Body.{frame-end}
+use Rattle.framing.proofs.Reading.{frame-end}
+use Rattle.touch.specs.Limits.{touchLimits}
 use Rattle.touch.proofs.frames.skip_frame.Statement.{statement}
 use Rattle.touch.proofs.frames.skip_frame.Tie as tie
 
@@ -57,7 +59,7 @@ refusal-requires : tie.Need-refusal-requires
 refusal-requires c κs = search needs
 
 returns : tie.Need-returns
-unfolding frame
+unfolding frameFormat
 returns c =
     let t = c .before .enum-told .given .1 in
     let w = rw t at (c .before .before .before .read-frame-head .ensures) in
@@ -90,7 +92,7 @@ returns-2 c =
     let r = c .before .before in
     let k = r .before .before .before in
     let b = stop (skip (times (head k .count) (contact strict))) (lent k) (at k) _ _ (rw t at (r .skip-contacts .ensures)) in
-    record { same = rw t (sym (frame-end (judged k) (lent k) (head k) _ (head-read k .reads) ∙ b)); inside = rw t (omega arith) }
+    record { same = rw t (sym (frame-end strict touchLimits (contact strict) (judged k) (lent k) (head k) _ (head-read k .reads) ∙ b)); inside = rw t (omega arith) }
 
 add-t10 : tie.Need-add-t10
 add-t10 c = omega (arith, contacts-read c .ends)
@@ -98,7 +100,7 @@ add-t10 c = omega (arith, contacts-read c .ends)
 returns-3 : tie.Need-returns-3
 returns-3 c =
     let k = up c in
-    record { same = sym (frame-end (judged k) (lent k) (head k) _ (head-read k .reads) ∙ contacts-read c .reads); inside = contacts-read c .ends }
+    record { same = sym (frame-end strict touchLimits (contact strict) (judged k) (lent k) (head k) _ (head-read k .reads) ∙ contacts-read c .reads); inside = contacts-read c .ends }
 
 pub skip-frame-spec : {M : Type 1} → statement M
 skip-frame-spec =

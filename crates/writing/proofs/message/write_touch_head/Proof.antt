@@ -7,7 +7,7 @@ use denote.Ref.{now}
 use lib.ListN.{length}
 use borrow.Rule.Slice.PartMut.{midOf}
 use Rattle.fields.specs.Integers.{strict}
-use Rattle.touch.specs.Touch.{touchHead}
+use Rattle.framing.specs.Format.{bodyHeadFormat}
 use Rattle.writing.specs.Filling.{Lays}
 use Rattle.writing.proofs.Filling.{left-by, lays-integer, lays-joined, joined-room}
 use borrow.Author.Needs.{needs}
@@ -47,7 +47,7 @@ same-length : tie.Need-same-length
 same-length c = search needs
 
 returns : tie.Need-returns
-unfolding touchHead
+unfolding bodyHeadFormat
 returns c =
     let y = c .before .before .before in
     lays-joined _ _ (time (up y)) (count y) (c .join .ensures) (rw append-nil)

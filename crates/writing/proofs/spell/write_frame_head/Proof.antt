@@ -7,7 +7,7 @@ use denote.Ref.{now}
 use lib.ListN.{length}
 use borrow.Rule.Slice.PartMut.{midOf}
 use Rattle.fields.specs.Integers.{strict}
-use Rattle.touch.specs.Touch.{frameHead}
+use Rattle.framing.specs.Format.{frameHeadFormat}
 use Rattle.writing.specs.Filling.{Lays}
 use Rattle.writing.proofs.Filling.{left-by, lays-integer, lays-joined, joined-room}
 use borrow.Author.Needs.{needs}
@@ -16,7 +16,7 @@ use Rattle.writing.proofs.spell.write_frame_head.Tie as tie
 
 count : (c : tie.After-write-u2) → let a = c .before .before .before .args in
     Lays (strict .u2 .write (a .head .count)) (c .write-u2 .result) (now (a .out)) (c .write-u2 .last .0)
-unfolding frameHead
+unfolding frameHeadFormat
 count c = lays-integer 1 0 _ _ _ _ _ (c .before .before .before .pre .0 .0) (c .write-u2 .ensures)
 
 abbrev up : tie.After-write-u8 → tie.After-write-u2
@@ -24,7 +24,7 @@ up c = c .before .before .before .before
 
 offset : (c : tie.After-write-u8) → let x = up c .write-u2 in let a = up c .before .before .before .args in
     Lays (strict .u8 .write (a .head .offset .0)) (c .write-u8 .result) (midOf (x .result .bytes) (length (x .last .0) - x .result .bytes) (x .last .0)) (c .write-u8 .last .0)
-unfolding frameHead
+unfolding frameHeadFormat
 offset c = lays-integer 3 0 _ _ _ _ _ (up c .before .before .before .pre .1 .0) (c .write-u8 .ensures)
 
 write-u2-requires : tie.Need-write-u2-requires
@@ -49,7 +49,7 @@ same-length : tie.Need-same-length
 same-length c = search needs
 
 returns : tie.Need-returns
-unfolding frameHead
+unfolding frameHeadFormat
 returns c =
     let y = c .before .before .before in
     lays-joined _ _ (count (up y)) (offset y) (c .join .ensures) (rw append-nil)

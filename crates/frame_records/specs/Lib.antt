@@ -1,3 +1,2 @@
 -- The records of frames.
-pub mod Records
 pub mod Frames

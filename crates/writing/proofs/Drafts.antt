@@ -20,7 +20,7 @@ use Rattle.messages.specs.Header as event
 use Rattle.touch.specs.Limits.{mostFrames}
 use Rattle.house.specs.declared.Contact.{Contact}
 use Rattle.framing.specs.Frame.{Frame}
-use Rattle.frame_records.specs.Records.{framesIn}
+use Rattle.writing.specs.Records.{framesIn}
 use Rattle.writing.specs.TouchDraft.{messageOf, framesDraft, touchDraft}
 use Rattle.writing.specs.Filling.{Lays}
 use Rattle.writing.specs.Spelling.{Spelt, bodyOf, counted}

@@ -33,10 +33,6 @@ room n m = go (leb n m) refl
     go true e = enough (leb-true _ _ e)
     go false e = short (leb-false _ _ e)
 
--- the bytes are known under another name
-pub lays-as : (s t : List ℕ) (w : Written) (before after : List ℕ) → s ≡ t → Lays s w before after → Lays t w before after
-lays-as s t w b a e h = rw e at h
-
 -- a writer that refuses for want of room alone
 pub lays-writes : (s : List ℕ) (w : Written) (before after : List ℕ) → Writes (bytes s) w before after → Lays s w before after
 lays-writes s w b a h = go (room (length s) (length b))

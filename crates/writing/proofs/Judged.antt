@@ -20,7 +20,7 @@ use Rattle.house.specs.declared.Contact.{Contact}
 use Rattle.house.proofs.WellFormed as well
 use Rattle.house.proofs.Front.{Front, front, record-head, record-contact, well-short}
 use Rattle.framing.specs.Frame.{Frame}
-use Rattle.frame_records.specs.Records.{stands, headRecord, contactRecord, frameRecords, readAll, framesIn}
+use Rattle.writing.specs.Records.{stands, headRecord, contactRecord, frameRecords, readAll, framesIn}
 use Rattle.writing.specs.Spelling.{kindIn, contactsAfter, counted}
 use Rattle.writing.proofs.Records.{passed, stood}
 

@@ -20,12 +20,11 @@ use Rattle.house.specs.declared.Head.{Head}
 use Rattle.house.specs.declared.Contact.{Contact}
 use Rattle.house.specs.declared.Record.the-variants as Record
 use Rattle.house.proofs.WellFormed as well
-use Rattle.house.proofs.Front.{Front, front, record-head, record-contact, well-short, front-is}
-use Rattle.house.proofs.Round.{length-head, length-contact, kind-head, kind-contact, head-well, contact-well, head-back, contact-back, head-fits, bytes-of-record}
-use Rattle.house.proofs.Learnt.{well-read}
+use Rattle.house.proofs.Front.{Front, front, record-head, record-contact, well-short, well-contact, front-is}
+use Rattle.house.proofs.Round.{length-head, length-contact, kind-head, kind-contact, head-well, contact-well, head-back, contact-back, head-fits, contact-fits, bytes-of-record}
 use Rattle.framing.specs.Frame.{Frame, headOf, contactsBytes, frameBytes, framesBytes}
 use Rattle.touch.specs.Touch.{touchRecord}
-use Rattle.frame_records.specs.Records.{stands, headRecord, contactRecord, frameRecords, readAll, framesIn}
+use Rattle.writing.specs.Records.{stands, headRecord, contactRecord, frameRecords, readAll, framesIn}
 
 -- ---- one record
 
@@ -75,9 +74,11 @@ head-law =
     }
 
 -- a contact that stands at the front, read
+no-head : (l : List ℕ) → Stands touched l → kindOf (take 21 l) ≡ head → ⊥
+no-head l s z = let v : _≡_ {A = ℕ} touched head = sym (s .kind) ∙ z in omega (arith, v)
+
 contact-is : (l : List ℕ) → Stands touched l → recordOf l ≡ Record.Contact touched (contactOf (take 21 l))
-contact-is l s =
-    record-contact l (s .long) (λ z. let v : _≡_ {A = ℕ} 1 0 = sym (s .kind) ∙ z in omega (arith, v)) ∙ ap (λ k. Record.Contact k (contactOf (take 21 l))) (s .kind)
+contact-is l s = record-contact l (s .long) (no-head l s) ∙ ap (λ k. Record.Contact k (contactOf (take 21 l))) (s .kind)
 
 contact-again : (l : List ℕ) → Stands touched l → Bytes l → contactBytes touched (contactOf (take 21 l)) ≡ take 21 l
 unfolding bytesOf
@@ -103,8 +104,8 @@ contact-law =
       sound = λ l c t b e.
           let p = passed (stands touched l) (contactOf (take 21 l)) c (drop 21 l) t e in
           let s = stood touched l (p .0) in
-          let r = well-read l touched (contactOf (take 21 l)) (contact-is l s) (s .well) in
-          ((rw (p .1) at (r .read .fits), rw (p .1) at (r .well)), rw (p .2) at (bytes-drop 21 l b));
+          let w = well.all-split _ _ (sym (well-contact l (s .long) (no-head l s)) ∙ s .well) .1 in
+          ((rw (p .1) at (contact-fits (take 21 l)), rw (p .1) at (well.all-split _ _ w .0)), rw (p .2) at (bytes-drop 21 l b));
       exact = λ x l c t b e.
           let p = passed (stands touched l) (contactOf (take 21 l)) c (drop 21 l) t e in
           let a = contact-again l (stood touched l (p .0)) b in

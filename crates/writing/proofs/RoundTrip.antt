@@ -25,7 +25,7 @@ use Rattle.framing.specs.Frame.{Frame, framesBytes}
 use Rattle.framing.specs.Format.{bodyFormat, bodyHeadFormat}
 use Rattle.touch.specs.Touch.{Touch, touch, touchRecord}
 use Rattle.touch.proofs.Laws.{strict-touch-law}
-use Rattle.frame_records.specs.Records.{framesIn}
+use Rattle.writing.specs.Records.{framesIn}
 use Rattle.reading.specs.Plain.{plainly}
 use Rattle.writing.specs.TouchDraft.{messageOf, framesDraft, recordsDraft, touchDraft}
 use Rattle.writing.proofs.Records.{FramesFit, frames-back, frames-read}

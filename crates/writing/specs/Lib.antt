@@ -1,4 +1,5 @@
 -- The touch writer.
+pub mod Records
 pub mod TouchDraft
 pub mod Filling
 pub mod Spelling

@@ -17,7 +17,7 @@ use Rattle.touch.specs.Limits.{mostFrames}
 use Rattle.house.specs.declared.Contact.{Contact}
 use Rattle.framing.specs.Frame.{Frame}
 use Rattle.touch.specs.Touch.{touch}
-use Rattle.frame_records.specs.Records.{framesIn}
+use Rattle.writing.specs.Records.{framesIn}
 
 -- the message of a time and frames
 abbrev pub messageOf : Milliseconds → List (Frame Contact) → List ℕ

@@ -3,7 +3,7 @@ ghost use mathlib.Core.Path.{_≡_};
 ghost use Rattle.formats.specs.Format.{times};
 ghost use Rattle.formats.specs.Answer.{Answers, skip};
 ghost use Rattle.touch.specs.Answer.{endGot, endLength};
-ghost use Rattle.frame_records.specs.Records.{stands, contactRecord, frameRecords, framesIn};
+ghost use Rattle.writing.specs.Records.{stands, contactRecord, frameRecords, framesIn};
 ghost use Rattle.writing.specs.Spelling.{kindIn, contactsAfter, counted, countedGot};
 use crate::Counted;
 use house::Record;

@@ -7,7 +7,7 @@ use lib.ListN.{length, drop, length-drop}
 use borrow.Author.Needs.{needs}
 use Rattle.formats.specs.Answer.{skip}
 use Rattle.formats.proofs.Steps.{step, stop, Stepped}
-use Rattle.frame_records.specs.Records.{frameRecords, framesIn}
+use Rattle.writing.specs.Records.{frameRecords, framesIn}
 use Rattle.writing.specs.Spelling.{counted}
 use Rattle.writing.proofs.Judged.{tally, tally-none, count-more, count-stop, tally-end}
 use Rattle.writing.proofs.judge.count_frames.Statement.{statement}

@@ -10,7 +10,7 @@ use borrow.Author.Tests.{not-true, not-false}
 use Rattle.formats.specs.Format.{readSeries}
 use Rattle.formats.specs.Answer.{skipped}
 use Rattle.formats.proofs.Steps.{tail, series-end, series-got, series-bad}
-use Rattle.frame_records.specs.Records.{stands}
+use Rattle.writing.specs.Records.{stands}
 use Rattle.writing.proofs.Judged.{contactBy, contact-stands, contact-fails}
 use Rattle.writing.proofs.Records.{stood}
 use Rattle.writing.proofs.judge.skip_contacts.Statement.{statement}

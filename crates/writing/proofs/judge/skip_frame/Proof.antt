@@ -12,7 +12,7 @@ use Rattle.formats.specs.Format.{times}
 use Rattle.formats.specs.Answer.{skip, skipped}
 use Rattle.formats.proofs.Steps.{step, stop, Stepped}
 use Rattle.house.specs.Layout.{recordOf}
-use Rattle.frame_records.specs.Records.{stands, contactRecord, frameRecords}
+use Rattle.writing.specs.Records.{stands, contactRecord, frameRecords}
 use Rattle.writing.specs.Spelling.{contactsAfter}
 use Rattle.writing.proofs.Judged.{frame-end, frame-fails}
 use Rattle.writing.proofs.Records.{stood}

@@ -69,9 +69,9 @@ pub record CountsActive (states : List ℕ) (r : ℕ) : Type 0 where
   pub small : r ≤ contacts
 
 -- the number of active contacts, given beside the 256 states
-pub record Counted (active : ℕ) (states : List ℕ) : Type 0 where
+pub record Counted (k : ℕ) (states : List ℕ) : Type 0 where
   pub all : length states ≡ contacts
-  pub same : active ≡ countActive states
+  pub same : k ≡ countActive states
 
 -- ---- the answers
 

@@ -48,8 +48,8 @@ pub fn find_head(rest: &[u8]) -> FoundHead
 {
     let got = touch::read_frame_head(rest, false);
     let ReadHead::Value(head, at) = got else {
-        let nowhere = none();
-        let head = nowhere.head;
+        let missing = none();
+        let head = missing.head;
         return FoundHead {
             head: head,
             contacts: 0,

@@ -3,7 +3,7 @@
 use Prim.Native.Nat.{ℕ, suc, _+_, _*_}
 use mathlib.Core.Path.{_≡_, refl, ap, _∙_}
 use mathlib.Core.Bool.{false}
-use mathlib.Core.List.{List, [], _∷_, _++_, append-assoc}
+use mathlib.Core.List.{List, [], _∷_, _++_}
 use native.Mathlib.Omega.{arith}
 use lib.ListN.{length, length-append}
 use Rattle.formats.specs.Format.{got, times}
@@ -71,20 +71,3 @@ pub length-frames : (fs : List (Frame Contact)) → length (framesBytes touchRec
 unfolding framesBytes recordsIn
 length-frames [] = refl
 length-frames (f ∷ fs) = rw (length-append, length-frame f, length-frames fs) (omega arith)
-
--- ---- parts
-
-pub contacts-append : (cs ds : List Contact) → contactsBytes touchRecord (cs ++ ds) ≡ contactsBytes touchRecord cs ++ contactsBytes touchRecord ds
-unfolding contactsBytes
-contacts-append [] ds = refl
-contacts-append (c ∷ cs) ds = rw (contacts-append cs ds, append-assoc)
-
-pub frames-append : (fs gs : List (Frame Contact)) → framesBytes touchRecord (fs ++ gs) ≡ framesBytes touchRecord fs ++ framesBytes touchRecord gs
-unfolding framesBytes
-frames-append [] gs = refl
-frames-append (f ∷ fs) gs = rw (frames-append fs gs, append-assoc)
-
-pub records-append : (fs gs : List (Frame Contact)) → recordsIn (fs ++ gs) ≡ recordsIn fs + recordsIn gs
-unfolding recordsIn
-records-append [] gs = omega arith
-records-append (f ∷ fs) gs = rw (records-append fs gs) (omega arith)

@@ -10,7 +10,7 @@ use lib.Seq.{length-take-le, drop-drop}
 use lib.Pow.{pow-pos, pow-add, shr-shr, high, mod-pow-add}
 use lib.Arith.{digits-lt}
 use Rattle.digits.specs.Digits.{joined, Bytes}
-use Rattle.digits.proofs.Laws.{pow-bits, joined-append, joined-split, joined-lt, joined-digits, digits-joined, length-digits, digits-bytes, bytes-drop}
+use Rattle.digits.proofs.Laws.{pow-bits, joined-append, joined-split, joined-lt, joined-digits, digits-joined, length-digits, bytes-drop}
 use Rattle.house.specs.Fields.{Field, field, packFrom, pack, total, widths, unpack, packed, unpacked}
 
 -- each value is of its width
@@ -79,10 +79,6 @@ pack-unpack (w ∷ ws) n =
 pub length-packed : (fs : List Field) → length (packed fs) ≡ 21
 unfolding packed
 length-packed fs = length-digits 21 (pack fs)
-
-pub bytes-packed : (fs : List Field) → Bytes (packed fs)
-unfolding packed
-bytes-packed fs = digits-bytes 21 (pack fs)
 
 -- reading what was packed
 pub unpacked-packed : (fs : List Field) → Fit fs → total (widths fs) ≡ 168 → unpacked (widths fs) (packed fs) ≡ fs

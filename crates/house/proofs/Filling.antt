@@ -89,9 +89,6 @@ puts-then {fs} {gs} h k =
       filled = λ s n f. rw (pack-append n fs gs) (k .filled s (packFrom n fs) (h .filled s n f));
     }
 
-pub ready-less : {p : Place} {n : ℕ} (w v : ℕ) → Ready p w n → v ≤ w → Ready p v n
-ready-less w v h l = record { pending = h .pending; inside = omega (arith, h .inside); room = h .room }
-
 -- after a part of what there was room for
 pub ready-after : {fs : List Field} {a b : List ℕ} {p q : Place} (w v : ℕ) → Ready p w (length a) → Puts fs a p b q → total (widths fs) + v ≤ w → Ready q v (length b)
 ready-after {fs} w v h k l =
@@ -105,9 +102,6 @@ word-any p w h = record { narrow = omega arith; word = omega arith }
 
 abbrev pub start : Place
 start = record { bits = 0; pending = 0 }
-
-pub ready-start : (n : ℕ) → 21 ≤ n → Ready start 168 n
-ready-start n h = record { pending = omega arith; inside = omega arith; room = h }
 
 pub filled-start : (s : List ℕ) → Filled s 0 s start
 unfolding digits

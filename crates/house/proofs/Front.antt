@@ -9,7 +9,6 @@ use lib.Dec.{leb, eqb}
 use lib.ListN.{length, take, length-append}
 use lib.Seq.{take-at}
 use borrow.Author.Tests.{leb-true, leb-false, eqb-true, eqb-false, le-leb, lt-leb, eq-eqb, ne-eqb}
-use Rattle.paper.specs.Refusals.{badRecord}
 use Rattle.house.specs.Layout.{kindOf, headIn, contactOf, recordOf}
 use Rattle.house.specs.WellFormed.{all, headSpare, contactSpare, contactWell, kindWell, wellFormed}
 use Rattle.house.specs.declared.Record.{Record}
@@ -29,10 +28,6 @@ pub front : (l : List ℕ) → Front l
 front l = front-by l (leb 21 (length l)) (eqb (kindOf (take 21 l)) 0) refl refl
 
 -- ---- what is read there
-
-pub record-short : (l : List ℕ) → length l < 21 → recordOf l ≡ Record.Refused badRecord
-unfolding recordOf
-record-short l h = rw (lt-leb _ _ h)
 
 pub record-head : (l : List ℕ) → 21 ≤ length l → kindOf (take 21 l) ≡ 0 → recordOf l ≡ Record.Head (headIn (take 21 l))
 unfolding recordOf

@@ -4,6 +4,5 @@ pub mod Filling
 pub mod WellFormed
 pub mod Front
 pub mod Round
-pub mod Learnt
 pub mod Unique
 mod Writing

@@ -21,7 +21,7 @@ use Rattle.house.specs.declared.Head.{Head}
 use Rattle.house.specs.declared.Contact.{Contact}
 use Rattle.house.specs.declared.Record.{Record}
 use Rattle.house.specs.declared.Record.the-variants as Record
-use Rattle.house.proofs.Fields.{Fit, field-fit, field-again, length-packed, bytes-packed, unpacked-packed, packed-unpacked}
+use Rattle.house.proofs.Fields.{Fit, field-fit, field-again, length-packed, unpacked-packed, packed-unpacked}
 use Rattle.house.proofs.Twos.{twos-lt, of-twos, twos-of, of-holds}
 use Rattle.house.proofs.WellFormed.{never, all-none, all-split, all-join}
 use Rattle.house.proofs.Front.{Front, short, front, record-head, record-contact, well-short, well-head, well-contact, front-is, front-long}
@@ -35,14 +35,6 @@ length-head h = length-packed (headFields h)
 pub length-contact : (k : ℕ) (c : Contact) → length (contactBytes k c) ≡ 21
 unfolding contactBytes
 length-contact k c = length-packed (contactFields k c)
-
-pub bytes-head : (h : Head) → Bytes (headBytes h)
-unfolding headBytes
-bytes-head h = bytes-packed (headFields h)
-
-pub bytes-contact : (k : ℕ) (c : Contact) → Bytes (contactBytes k c)
-unfolding contactBytes
-bytes-contact k c = bytes-packed (contactFields k c)
 
 -- ---- the fields of what was packed
 
@@ -170,10 +162,6 @@ contact-fits s =
       orientation = field-fit 9 _;
       pressure = field-fit 16 _;
     }
-
-pub kind-fits : (s : List ℕ) → kindOf s < 4
-unfolding kindOf unpacked
-kind-fits s = field-fit 2 _
 
 -- ---- PACK OF UNPACK
 

@@ -1,5 +1,5 @@
 -- "21 bytes, bit-packed, most significant bit first": a record as a list of fields, packed into one number, and that number's bytes.
-use Prim.Native.Nat.{ℕ, _+_, _*_, _/_, _%_, _^_, _<_}
+use Prim.Native.Nat.{ℕ, _+_, _*_, _/_, _%_, _^_}
 use mathlib.Core.List.{List, [], _∷_}
 use lib.ListN.{getD}
 use Rattle.digits.specs.Digits.{joined, digits}

@@ -1,8 +1,8 @@
 -- What the fields of a record hold, and what a message holds: the ranges of a head's and of a contact's values.
-use Prim.Native.Nat.{ℕ, _^_, _<_, _≤_}
+use Prim.Native.Nat.{_^_, _<_, _≤_}
 use mathlib.Core.Path.{_≡_}
-use mathlib.Core.Bool.{Bool, true, false}
-use lib.IntN.{ℤ, pos, natAbs}
+use mathlib.Core.Bool.{true, false}
+use lib.IntN.{pos, natAbs}
 use Rattle.states.specs.Table.{listed}
 use Rattle.house.specs.Twos.{Holds}
 use Rattle.house.specs.WellFormed.{has, placeMost, sideMost, orientationMost, pressureMost}

@@ -12,7 +12,7 @@ use lib.Dec.{leb}
 use lib.ListN.{length, take, drop, length-append, length-drop}
 use lib.Seq.{length-take-le, drop-drop}
 use Rattle.slices.specs.Writing.{laid}
-use Rattle.slices.proofs.Tails.{laidAt, laid-none, tail-is, put-back, wrote as wrote-on}
+use Rattle.slices.proofs.Tails.{laidAt, laid-none, tail-is, wrote as wrote-on}
 use Rattle.entries.specs.Entries.{frontOf}
 use Rattle.entries.specs.declared.Front.{Front}
 use Rattle.entries.specs.declared.Front.the-variants as Front

@@ -1,6 +1,5 @@
 -- What the walks of calls that are lent a receiver speak of: values of the machine, and what whoever holds one knows of it.
 -- Assumes nothing.
-use Prim.Native.Nat.{ℕ}
 use mathlib.Core.List.{[], _∷_, List}
 use mir.Val.{Val}
 use denote.Laws.{Is}

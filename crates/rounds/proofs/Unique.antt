@@ -4,7 +4,6 @@ use Prim.Native.Nat.{ℕ, _+_}
 use mathlib.Core.Path.{_≡_, sym, ap, _∙_}
 use mathlib.Core.List.{List}
 use Rattle.feed.specs.Within.{bytesIn}
-use Rattle.feed.specs.declared.Window.{Window}
 use Rattle.intake.specs.Feeding.{TakesEntries}
 use Rattle.intake.specs.declared.Fed.{Fed}
 use Rattle.intake.proofs.Unique.{take-entries-unique}

@@ -2,7 +2,7 @@
 -- Assumes nothing.
 use Prim.Native.Nat.{ℕ, suc, _+_, _-_, _≤_, _<_}
 use mathlib.Core.Path.{_≡_, refl, sym, ap, _∙_}
-use mathlib.Core.List.{List, [], _∷_, _++_, append-assoc, append-nil}
+use mathlib.Core.List.{List, [], _++_, append-assoc, append-nil}
 use native.Mathlib.Nat.{zero-add}
 use native.Mathlib.Numerals.{add-one}
 use native.Mathlib.Omega.{arith}
@@ -71,18 +71,10 @@ wrote-second d d₁ l s t n es e₁ el r =
 
 -- ---- a copy to the front, byte by byte
 
-pub front-none : (d s : List ℕ) → d ≡ take 0 s ++ drop 0 d
-front-none d s = refl
-
 pub front-step : (d s : List ℕ) (i : ℕ) → i < length d → i < length s → set (take i s ++ drop i d) i (getD s i 0) ≡ take (i + 1) s ++ drop (i + 1) d
 front-step d s i hd hs =
     let l : length (take i s) ≡ i = length-take-le i s (omega arith) in
     rw (add-one, drop-cons d i 0, set-at (take i s) (getD d i 0) (drop (suc i) d) (getD s i 0) i l, take-suc s i 0) (sym (append-snoc (take i s) (getD s i 0) (drop (suc i) d)))
-
-pub front-length : (d s : List ℕ) (i : ℕ) → i ≤ length d → i ≤ length s → length (take i s ++ drop i d) ≡ length d
-front-length d s i hd hs =
-    let l : length (take i s) ≡ i = length-take-le i s hs in
-    simp (length-append, l, length-drop) (omega arith)
 
 pub front-all : (d s : List ℕ) (i : ℕ) → length s ≡ i → take i s ++ drop i d ≡ laid d s
 front-all d s i e = rw (take-all i s (omega arith), ← e)

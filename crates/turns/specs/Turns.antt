@@ -4,9 +4,7 @@ use mathlib.Core.Path.{_≡_}
 use mathlib.Core.Bool.{cond}
 use mathlib.Core.List.{List, [], _∷_}
 use lib.Dec.{ltb}
-use lib.ListN.{length}
-use Rattle.feed.specs.declared.Window.{Window}
-use Rattle.lines.specs.Page.{Placed, addTo, Added, decimal, lineEnd}
+use Rattle.lines.specs.Page.{addTo, Added, decimal, lineEnd}
 use Rattle.turns.specs.declared.Stand.{Stand}
 use Rattle.turns.specs.declared.Turn.{Turn}
 use Rattle.turns.specs.declared.Turn.the-variants as Turn

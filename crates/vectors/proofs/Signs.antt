@@ -1,8 +1,8 @@
 -- A signed number at 64 bits: its sign by the machine's test, and -1 - z of one below 0.
 -- Assumes nothing.
-use mathlib.Core.Path.{_≡_, refl, _∙_}
+use mathlib.Core.Path.{_≡_, _∙_}
 use mathlib.Core.Bool.{true, false}
-use Prim.Native.Nat.{ℕ, suc, _-_, _≤_, _<_, _+_}
+use Prim.Native.Nat.{ℕ, suc, _-_, _≤_, _+_}
 use native.Mathlib.Omega.{arith}
 use lib.Dec.{T}
 use lib.IntN.{ℤ, pos, negsuc, _-ℤ_, natAbs}

@@ -1,6 +1,6 @@
 -- `kangirlo::kangirlo_read_record` meets its contract: being well formed picks the case.
 -- Assumes nothing.
-use mathlib.Core.Path.{_≡_, sym, ap, _∙_}
+use mathlib.Core.Path.{sym, ap, _∙_}
 use borrow.Author.Needs.{needs}
 use Rattle.kangirlo.specs.Flat.{flat, flattened}
 use Rattle.kangirlo.proofs.kangirlo_read_record.Statement.{statement}

@@ -1,7 +1,6 @@
 -- `lines::add_hex` meets its contract.
 -- Assumes nothing.
 use borrow.Author.Needs.{needs}
-use mathlib.Core.Path.{_≡_}
 use Rattle.lines.proofs.add_hex.Statement.{statement}
 use Rattle.lines.proofs.add_hex.Tie as tie
 

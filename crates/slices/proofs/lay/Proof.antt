@@ -1,8 +1,8 @@
 -- `slices::lay` meets its contract. The invariant: the first i bytes of out are the source's, the others as they were.
 -- Assumes nothing.
-use mathlib.Core.Path.{_≡_, refl, ap, _∙_, sym}
+use mathlib.Core.Path.{_≡_, refl, _∙_}
 use mathlib.Core.List.{_++_}
-use Prim.Native.Nat.{ℕ, _≤_, _+_, _-_}
+use Prim.Native.Nat.{_≤_, _-_}
 use native.Mathlib.Omega.{arith}
 use borrow.Author.Needs.{needs}
 use lib.ListN.{length, drop, take, length-set}
@@ -10,8 +10,6 @@ use Rattle.slices.proofs.Tails.{front-step, front-all}
 use Rattle.slices.proofs.Laws.{writes-bytes, writes-none}
 use Rattle.slices.proofs.lay.Statement.{statement}
 use Rattle.slices.proofs.lay.Tie as tie
-use Rattle.slices.proofs.lay.Reads as reads
-use Rattle.slices.proofs.lay.Lts as lts
 
 abbrev Inv-loop : tie.InvT-loop
 Inv-loop out₀ source i₀ out i =

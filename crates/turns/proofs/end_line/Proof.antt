@@ -1,7 +1,7 @@
 -- `turns::end_line` meets its contract.
 -- Assumes nothing.
 use borrow.Author.Needs.{needs}
-use mathlib.Core.Path.{_≡_, refl, ap}
+use mathlib.Core.Path.{refl, ap}
 use native.Mathlib.Omega.{arith}
 use Rattle.lines.specs.Page.{Placed, addAll}
 use Rattle.turns.proofs.end_line.Statement.{statement}

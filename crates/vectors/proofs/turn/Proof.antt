@@ -1,7 +1,6 @@
 -- `vectors::turn` is safe: an entry's message lies within the space.
 -- Assumes nothing.
 use borrow.Author.Needs.{needs}
-use Prim.Native.Nat.{_+_, _≤_}
 use native.Mathlib.Omega.{arith}
 use lib.ListN.{length}
 use Rattle.feed.specs.Within.{Entered}

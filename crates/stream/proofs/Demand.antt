@@ -1,0 +1,61 @@
+-- Demand 3, of every stream: of any profile, and of any messages, those that are nothing to it among them.
+-- Assumes nothing.
+use Prim.Native.Nat.{ℕ, _<_}
+use mathlib.Core.Path.{_≡_}
+use mathlib.Core.Bool.{true}
+use mathlib.Core.List.{List, [], _∷_, _++_}
+use lib.ListN.{length}
+use Rattle.states.specs.Table.{out}
+use Rattle.house.specs.declared.Point.{Point}
+use Rattle.framing.specs.Frame.{Frame}
+use Rattle.machine.specs.Table.{Table, contacts, stateAt, placeAt, origin, resting}
+use Rattle.machine.specs.Machine.{cancels}
+use Rattle.machine.proofs.Machine.{total}
+use Rattle.stream.specs.Stream.{Profile, Stream, Given, framesIn, opens, unopened, Unopened, Silent, NoneActive, machineAt, bytesAt, countsAt, CancelledAfter, after, written, AsRested}
+use Rattle.stream.specs.Path.{Seen, recordsIn, path, at}
+use Rattle.stream.specs.Asked.{Laws, All, FrameFits, AllProper}
+use Rattle.stream.proofs.Kept.{Kept, after-kept, counts-at}
+use Rattle.stream.proofs.Quiet.{after-quiet, since-cancel}
+use Rattle.stream.proofs.Rested.{as-rested}
+use Rattle.stream.proofs.Paths.{legal-path}
+
+-- ---- of a profile that keeps what is asked of it
+
+module _ {S C R : Type 0} {profile : Profile S C} {read : List ℕ → R} {seen : R → Seen} {Live : ℕ → Type 0} {Fits : C → Type 0} {PlaceFits : Point → Type 0} (law : Laws profile read seen Live Fits PlaceFits) where
+  -- What is always true: all 256 contacts are there, each in a live state, at 0, 0 where it is out of range, at most so many active as may be, and
+  -- none where the stream ignores.
+  pub every-message-keeps-it : (s : Stream S) (gs : List (Given S C)) → AllProper profile Fits s gs → Kept profile Live PlaceFits s → Kept profile Live PlaceFits (after profile s gs)
+  every-message-keeps-it = after-kept law
+
+  -- "Each contact's records are a legal path through the three states from out of range": from rest on, and it ends where the stream has that
+  -- contact.
+  pub each-contact's-records-are-a-legal-path : (id : ℕ) → id < contacts → (s : Stream S) (gs : List (Given S C)) → s .machine .table ≡ resting → AllProper profile Fits s gs
+      → let t : Table = after profile s gs .machine .table in path (profile .next) seen id (recordsIn read (written profile s gs)) out origin ≡ at (stateAt t id) (placeAt t id)
+  each-contact's-records-are-a-legal-path = legal-path law
+
+  -- "From any opening frame accepted while no contact is active, the records and the contact table are those of a rested receiver with the same
+  -- settings given that frame and all that follows": f is the opening frame, in either mode, after the frames fs of its message.
+  pub from-an-opening-frame-as-if-rested : (s : Stream S) → Kept profile Live PlaceFits s → (fs : List (Frame C)) (f : Frame C) (gs : List (Frame C)) → All (FrameFits Fits) (fs ++ (f ∷ gs)) → opens (profile .view) f ≡ true
+      → NoneActive (machineAt profile s fs .table) → (more : List (Given S C)) → AsRested profile s fs f gs more
+  from-an-opening-frame-as-if-rested = as-rested law
+
+-- ---- of any profile
+
+module _ {S C : Type 0} (profile : Profile S C) where
+  -- "After a cancel's own records nothing is written until an opening frame": dismissals included, a stream that ignores and has no active contact
+  -- stays so as long as no opening frame is accepted.
+  pub a-silent-stream-writes-nothing-until-an-opening-frame : (s : Stream S) (gs : List (Given S C)) → Silent s → Unopened (profile .view) gs → (written profile s gs ≡ []) × Silent (after profile s gs)
+  a-silent-stream-writes-nothing-until-an-opening-frame s gs k u = (after-quiet profile s gs k u .none, after-quiet profile s gs k u .still)
+
+  -- Of a message with the frames fs, f, gs, where f is cancelled and none of gs opens, and of all messages after it, as long as no opening frame is
+  -- accepted, nothing is written but the records of fs and the cancel's own.
+  pub after-a-cancel-nothing-until-an-opening-frame : (s : Stream S) (g : Given S C) (more : List (Given S C)) (fs : List (Frame C)) (f : Frame C) (gs : List (Frame C))
+      → framesIn g ≡ fs ++ (f ∷ gs) → CancelledAfter profile s fs f → unopened (profile .view) gs ≡ true → Unopened (profile .view) more
+      → (written profile s (g ∷ more) ≡ bytesAt profile s fs ++ cancels (profile .view) (machineAt profile s fs .table)) × Silent (after profile s (g ∷ more))
+  after-a-cancel-nothing-until-an-opening-frame s g more fs f gs e v u k =
+      let c = since-cancel profile s g more fs f gs e v u k in
+      (c .own, c .silent)
+
+  -- "The three counts add up to frameCount."
+  pub counts-add-up-to-frame-count : (s : Stream S) (fs : List (Frame C)) → total (countsAt profile s fs) ≡ length fs
+  counts-add-up-to-frame-count = counts-at profile

@@ -1,0 +1,129 @@
+-- From an opening frame on, while no contact is active, a stream is as a rested one.
+-- Assumes nothing.
+use Prim.Native.Nat.{ℕ}
+use mathlib.Core.Path.{_≡_, refl, ap, _∙_}
+use mathlib.Core.Bool.{Bool, true, false, cond}
+use mathlib.Core.List.{List, [], _∷_, _++_, append-assoc}
+use Rattle.house.specs.declared.Point.{Point}
+use Rattle.framing.specs.Frame.{Frame, timedFrame, timedFrames}
+use Rattle.framing.proofs.Timed.{timed-cons, timed-append}
+use Rattle.machine.specs.Table.{Table, resting}
+use Rattle.machine.specs.Rules.{View, Rules}
+use Rattle.machine.specs.Conforms.{conforms}
+use Rattle.machine.specs.Machine.{Machine, injected, cancelled, verdict, machineAfter, bytesFor, stepMachine, stepBytes, runMachine, runBytes}
+use Rattle.machine.proofs.Machine.{machine-append, bytes-append}
+use Rattle.stream.specs.Stream.{Profile, Stream, Given, frames, begunAfter, opens, rested, NoneActive, rulesFor, machineAt, bytesAt, next, wrote, after, written, AsRested}
+use Rattle.stream.specs.Path.{Seen}
+use Rattle.stream.specs.Asked.{Laws, All, FrameFits}
+use Rattle.stream.proofs.Steadiness.{none-active-rests}
+use Rattle.stream.proofs.Kept.{Kept, frames-kept, all-front}
+use Rattle.stream.proofs.Quiet.{timed-opens}
+
+-- ---- an opening frame, in either mode
+
+module _ {C : Type 0} (view : View C) (rules : Rules C) (t : Table) (f : Frame C) (o : opens view f ≡ true) where
+  abbrev inMode : Bool → Machine
+  inMode b = record { table = t; running = b }
+
+  open-machine : (b : Bool) → stepMachine view rules (inMode b) f ≡ stepMachine view rules (inMode true) f
+  unfolding stepMachine verdict
+  open-machine true = refl
+  open-machine false = rw o (go (conforms view rules t (f .contacts)))
+    where
+      go : (c : Bool) → machineAfter view (cond c injected cancelled) (rules .next) (inMode false) (f .contacts) ≡ machineAfter view (cond c injected cancelled) (rules .next) (inMode true) (f .contacts)
+      go true = refl
+      go false = refl
+
+  open-bytes : (b : Bool) → stepBytes view rules (inMode b) f ≡ stepBytes view rules (inMode true) f
+  unfolding stepBytes verdict
+  open-bytes true = refl
+  open-bytes false = rw o (go (conforms view rules t (f .contacts)))
+    where
+      go : (c : Bool) → bytesFor view (cond c injected cancelled) (inMode false) f ≡ bytesFor view (cond c injected cancelled) (inMode true) f
+      go true = refl
+      go false = refl
+
+-- ---- the frames of a message from an opening one on, with no contact active before it
+
+module _ {C : Type 0} (view : View C) (rules : Rules C) (m : Machine) (e : m .table ≡ resting) (f : Frame C) (fs : List (Frame C)) (o : opens view f ≡ true) where
+  abbrev running : Machine
+  running = record { table = resting; running = true }
+
+  in-mode : m ≡ record { table = resting; running = m .running }
+  in-mode = λ i. record { table = e i; running = m .running }
+
+  first-machine : stepMachine view rules m f ≡ stepMachine view rules running f
+  first-machine = ap (λ (k : Machine). stepMachine view rules k f) in-mode ∙ open-machine view rules resting f o (m .running)
+
+  first-bytes : stepBytes view rules m f ≡ stepBytes view rules running f
+  first-bytes = ap (λ (k : Machine). stepBytes view rules k f) in-mode ∙ open-bytes view rules resting f o (m .running)
+
+  from-machine : runMachine view rules m (f ∷ fs) ≡ runMachine view rules running (f ∷ fs)
+  unfolding runMachine
+  from-machine = ap (λ (k : Machine). runMachine view rules k fs) first-machine
+
+  from-bytes : runBytes view rules m (f ∷ fs) ≡ runBytes view rules running (f ∷ fs)
+  unfolding runBytes
+  from-bytes = λ i. first-bytes i ++ runBytes view rules (first-machine i) fs
+
+-- ---- the two streams
+
+module _ {S C : Type 0} (profile : Profile S C) (s : Stream S) (fs : List (Frame C)) (f : Frame C) (gs : List (Frame C)) (o : opens (profile .view) f ≡ true) (z : machineAt profile s fs .table ≡ resting) where
+  abbrev untimed : Bool
+  untimed = profile .untimed (s .settings)
+
+  abbrev rules : Rules C
+  rules = rulesFor profile (s .settings)
+
+  timed-open : opens (profile .view) (timedFrame untimed f) ≡ true
+  timed-open = timed-opens (profile .view) untimed f ∙ o
+
+  whole-machine : machineAt profile s (fs ++ (f ∷ gs)) ≡ machineAt profile (rested (s .settings)) (f ∷ gs)
+  unfolding rested
+  whole-machine =
+      rw (timed-append untimed fs (f ∷ gs), timed-cons untimed f gs)
+      (machine-append (profile .view) rules (s .machine) (timedFrames untimed fs) (timedFrame untimed f ∷ timedFrames untimed gs)
+      ∙ from-machine (profile .view) rules (machineAt profile s fs) z (timedFrame untimed f) (timedFrames untimed gs) timed-open)
+
+  whole-bytes : bytesAt profile s (fs ++ (f ∷ gs)) ≡ bytesAt profile s fs ++ bytesAt profile (rested (s .settings)) (f ∷ gs)
+  unfolding rested
+  whole-bytes =
+      rw (timed-append untimed fs (f ∷ gs), timed-cons untimed f gs)
+      (bytes-append (profile .view) rules (s .machine) (timedFrames untimed fs) (timedFrame untimed f ∷ timedFrames untimed gs)
+      ∙ ap (λ (l : List ℕ). bytesAt profile s fs ++ l) (from-bytes (profile .view) rules (machineAt profile s fs) z (timedFrame untimed f) (timedFrames untimed gs) timed-open))
+
+  begun-whole : begunAfter (s .begun) (fs ++ (f ∷ gs)) ≡ true
+  begun-whole = go fs
+    where
+      go : (hs : List (Frame C)) → begunAfter (s .begun) (hs ++ (f ∷ gs)) ≡ true
+      go [] = refl
+      go (h ∷ hs) = refl
+
+  rested-next : next profile s (frames (fs ++ (f ∷ gs))) ≡ next profile (rested (s .settings)) (frames (f ∷ gs))
+  unfolding next rested
+  rested-next = λ i. record { settings = s .settings; machine = whole-machine i; begun = begun-whole i }
+
+  rested-wrote : wrote profile s (frames (fs ++ (f ∷ gs))) ≡ bytesAt profile s fs ++ wrote profile (rested (s .settings)) (frames (f ∷ gs))
+  unfolding wrote
+  rested-wrote = whole-bytes
+
+  rested-from : (more : List (Given S C)) → AsRested profile s fs f gs more
+  unfolding after written
+  rested-from more =
+      let q = next profile (rested (s .settings)) (frames (f ∷ gs)) in
+      record {
+        stream = rested-next;
+        bytes = rested-wrote;
+        after = ap (λ (k : Stream S). after profile k more) rested-next;
+        written =
+            (λ i. rested-wrote i ++ written profile (rested-next i) more)
+            ∙ append-assoc (bytesAt profile s fs) (wrote profile (rested (s .settings)) (frames (f ∷ gs))) (written profile q more);
+      }
+
+module _ {S C R : Type 0} {profile : Profile S C} {read : List ℕ → R} {seen : R → Seen} {Live : ℕ → Type 0} {Fits : C → Type 0} {PlaceFits : Point → Type 0} (law : Laws profile read seen Live Fits PlaceFits) where
+  -- no contact active is the resting table
+  pub as-rested : (s : Stream S) → Kept profile Live PlaceFits s → (fs : List (Frame C)) (f : Frame C) (gs : List (Frame C)) → All (FrameFits Fits) (fs ++ (f ∷ gs)) → opens (profile .view) f ≡ true
+      → NoneActive (machineAt profile s fs .table) → (more : List (Given S C)) → AsRested profile s fs f gs more
+  as-rested s k fs f gs h o idle more =
+      let t = frames-kept law s fs (all-front (FrameFits Fits) fs (f ∷ gs) h) k .table in
+      rested-from profile s fs f gs o (none-active-rests (machineAt profile s fs .table) (t .whole) (t .places) idle) more

@@ -1,0 +1,4 @@
+-- One stream of contacts, over what it goes by; the path of a contact through its records; and what is asked of an instance.
+pub mod Stream
+pub mod Path
+pub mod Asked

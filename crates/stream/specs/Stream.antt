@@ -1,0 +1,130 @@
+-- One stream: a machine, the settings that it is held to and its first-frame mark; and what it becomes and writes by the messages of a history,
+-- which are read already. A receiver may have several: to each of them a message is something, or nothing.
+use Prim.Native.Nat.{ℕ}
+use mathlib.Core.Path.{_≡_}
+use mathlib.Core.Bool.{Bool, true, false, not}
+use mathlib.Core.List.{List, [], _∷_, _++_}
+use Rattle.states.specs.Table.{out}
+use Rattle.framing.specs.Frame.{Frame, timedFrames}
+use Rattle.machine.specs.Table.{Table, stateAt, resting}
+use Rattle.machine.specs.Rules.{View, Rules}
+use Rattle.machine.specs.Conforms.{every}
+use Rattle.machine.specs.Machine.{Machine, Counts, cancelled, opening, verdict, runMachine, runBytes, runCounts, dismissTable, dismissBytes}
+
+-- what a stream goes by, under settings S and with contacts C: what its machine sees of a contact, the state table, the test that each contact
+-- passes; and of the settings, how many contacts may be active and whether offset 0 is written (ready flag 2)
+pub record Profile (S C : Type 0) : Type 0 where
+  pub view : View C
+  pub next : ℕ → ℕ → ℕ
+  pub passes : C → Bool
+  pub most : S → ℕ
+  pub untimed : S → Bool
+
+pub record Stream (S : Type 0) : Type 0 where
+  pub settings : S
+  pub machine : Machine
+  pub begun : Bool
+
+-- what a message is to a stream: nothing where it is refused or of another; the settings of a client ready, the frames as they were read, or the
+-- id of a dismissal where it is accepted
+pub data Given (S C : Type 0) : Type 0 where
+  nothing : Given S C
+  settings : S → Given S C
+  frames : List (Frame C) → Given S C
+  dismissal : ℕ → Given S C
+
+-- "A frame is accepted when its message is"
+abbrev pub framesIn : {S C : Type 0} → Given S C → List (Frame C)
+framesIn nothing = []
+framesIn (settings x) = []
+framesIn (frames fs) = fs
+framesIn (dismissal id) = []
+
+-- a message with a frame sets the first-frame mark
+abbrev pub begunAfter : {C : Type 0} → Bool → List (Frame C) → Bool
+begunAfter begun [] = begun
+begunAfter begun (f ∷ fs) = true
+
+-- "A rested receiver has accepted event 2, is past its first frame, is running, and has no active contact."
+unfoldable pub rested : {S : Type 0} → S → Stream S
+rested x = record { settings = x; machine = record { table = resting; running = true }; begun = true }
+
+-- what a cancelled frame leaves: ignoring, every contact out of range
+pub record Silent {S : Type 0} (s : Stream S) : Type 0 where
+  pub ignoring : s .machine .running ≡ false
+  pub resting : s .machine .table ≡ resting
+
+-- no contact is active
+abbrev pub NoneActive : Table → Type 0
+NoneActive t = (id : ℕ) → stateAt t id ≡ out
+
+-- ---- "The meaning of "opening" is the same in both modes."
+
+module _ {C : Type 0} (view : View C) where
+  abbrev pub opens : Frame C → Bool
+  opens f = opening view (f .contacts)
+
+  unfoldable pub unopened : List (Frame C) → Bool
+  unopened fs = every (λ f. not (opens f)) fs
+
+  -- no opening frame is accepted
+  unfoldable pub Unopened : {S : Type 0} → List (Given S C) → Type 0
+  Unopened [] = Unit
+  Unopened (g ∷ gs) = (unopened (framesIn g) ≡ true) × Unopened gs
+
+module _ {S C : Type 0} (profile : Profile S C) where
+  -- what the machine is held to
+  abbrev pub rulesFor : S → Rules C
+  rulesFor x = record { next = profile .next; most = profile .most x; passes = profile .passes }
+
+  -- ---- the first frames of a message: the contacts and the mode after them, what they write, and how they are counted
+
+  abbrev pub machineAt : Stream S → List (Frame C) → Machine
+  machineAt s fs = runMachine (profile .view) (rulesFor (s .settings)) (s .machine) (timedFrames (profile .untimed (s .settings)) fs)
+
+  abbrev pub bytesAt : Stream S → List (Frame C) → List ℕ
+  bytesAt s fs = runBytes (profile .view) (rulesFor (s .settings)) (s .machine) (timedFrames (profile .untimed (s .settings)) fs)
+
+  abbrev pub countsAt : Stream S → List (Frame C) → Counts
+  countsAt s fs = runCounts (profile .view) (rulesFor (s .settings)) (s .machine) (timedFrames (profile .untimed (s .settings)) fs)
+
+  -- the frame f is cancelled, after the frames fs of its message
+  abbrev pub CancelledAfter : Stream S → List (Frame C) → Frame C → Type 0
+  CancelledAfter s fs f = verdict (profile .view) (rulesFor (s .settings)) (machineAt s fs) (f .contacts) ≡ cancelled
+
+  -- ---- what one message leaves and writes
+
+  unfoldable pub next : Stream S → Given S C → Stream S
+  next s nothing = s
+  next s (settings x) = record { settings = x; machine = s .machine; begun = s .begun }
+  next s (frames fs) = record { settings = s .settings; machine = machineAt s fs; begun = begunAfter (s .begun) fs }
+  next s (dismissal id) =
+      record {
+        settings = s .settings;
+        machine = record { table = dismissTable (s .machine .table) id; running = s .machine .running };
+        begun = s .begun;
+      }
+
+  unfoldable pub wrote : Stream S → Given S C → List ℕ
+  wrote s nothing = []
+  wrote s (settings x) = []
+  wrote s (frames fs) = bytesAt s fs
+  wrote s (dismissal id) = dismissBytes (profile .view) (s .machine .table) id
+
+  -- ---- what a history leaves and writes
+
+  unfoldable pub after : Stream S → List (Given S C) → Stream S
+  after s [] = s
+  after s (g ∷ gs) = after (next s g) gs
+
+  unfoldable pub written : Stream S → List (Given S C) → List ℕ
+  written s [] = []
+  written s (g ∷ gs) = wrote s g ++ written (next s g) gs
+
+  -- "records are compared from that frame on": the stream s given the frames fs, f, gs and then `more` is, but for the frames fs, the rested one
+  -- given f, gs and then `more`
+  pub record AsRested (s : Stream S) (fs : List (Frame C)) (f : Frame C) (gs : List (Frame C)) (more : List (Given S C)) : Type 0 where
+    pub stream : next s (frames (fs ++ (f ∷ gs))) ≡ next (rested (s .settings)) (frames (f ∷ gs))
+    pub bytes : wrote s (frames (fs ++ (f ∷ gs))) ≡ bytesAt s fs ++ wrote (rested (s .settings)) (frames (f ∷ gs))
+    pub after : after s (frames (fs ++ (f ∷ gs)) ∷ more) ≡ after (rested (s .settings)) (frames (f ∷ gs) ∷ more)
+    pub written : written s (frames (fs ++ (f ∷ gs)) ∷ more) ≡ bytesAt s fs ++ written (rested (s .settings)) (frames (f ∷ gs) ∷ more)

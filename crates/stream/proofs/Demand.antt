@@ -21,7 +21,7 @@ use Rattle.stream.proofs.Paths.{legal-path}
 
 -- ---- of a profile that keeps what is asked of it
 
-module _ {S C R : Type 0} {profile : Profile S C} {read : List ℕ → R} {seen : R → Seen} {Live : ℕ → Type 0} {Fits : C → Type 0} {PlaceFits : Point → Type 0} (law : Laws profile read seen Live Fits PlaceFits) where
+module _ {S C R : Type 0} {profile : Profile S C} {table : ℕ → ℕ → ℕ} {read : List ℕ → R} {seen : R → Seen} {Live : ℕ → Type 0} {Fits : C → Type 0} {PlaceFits : Point → Type 0} (law : Laws profile table read seen Live Fits PlaceFits) where
   -- What is always true: all 256 contacts are there, each in a live state, at 0, 0 where it is out of range, at most so many active as may be, and
   -- none where the stream ignores.
   pub every-message-keeps-it : (s : Stream S) (gs : List (Given S C)) → AllProper profile Fits s gs → Kept profile Live PlaceFits s → Kept profile Live PlaceFits (after profile s gs)
@@ -30,7 +30,7 @@ module _ {S C R : Type 0} {profile : Profile S C} {read : List ℕ → R} {seen 
   -- "Each contact's records are a legal path through the three states from out of range": from rest on, and it ends where the stream has that
   -- contact.
   pub each-contact's-records-are-a-legal-path : (id : ℕ) → id < contacts → (s : Stream S) (gs : List (Given S C)) → s .machine .table ≡ resting → AllProper profile Fits s gs
-      → let t : Table = after profile s gs .machine .table in path (profile .next) seen id (recordsIn read (written profile s gs)) out origin ≡ at (stateAt t id) (placeAt t id)
+      → let t : Table = after profile s gs .machine .table in path table seen id (recordsIn read (written profile s gs)) out origin ≡ at (stateAt t id) (placeAt t id)
   each-contact's-records-are-a-legal-path = legal-path law
 
   -- "From any opening frame accepted while no contact is active, the records and the contact table are those of a rested receiver with the same

@@ -10,7 +10,7 @@ use Rattle.house.specs.declared.Point.{Point}
 use Rattle.framing.specs.Frame.{Frame, timedFrame, timedFrames}
 use Rattle.framing.proofs.Timed.{timed-length}
 use Rattle.machine.proofs.Machine.{total, counts-total}
-use Rattle.stream.specs.Stream.{Profile, Stream, Given, nothing, settings, frames, dismissal, rulesFor, machineAt, countsAt, next, after}
+use Rattle.stream.specs.Stream.{Profile, Stream, Given, nothing, settings, frames, dismissal, machineAt, countsAt, next, after}
 use Rattle.stream.specs.Path.{Seen}
 use Rattle.stream.specs.Asked.{Laws, All, FrameFits, Proper, AllProper}
 use Rattle.stream.proofs.Steadiness.{Steady, resting-steady, run-steady, dismiss-steady}
@@ -33,18 +33,18 @@ timed-fit Fits untimed (f ∷ fs) h = (timed-fits Fits untimed f (h .0), timed-f
 -- ---- what every message keeps
 
 abbrev pub Kept : {S C : Type 0} → Profile S C → (ℕ → Type 0) → (Point → Type 0) → Stream S → Type 0
-Kept profile Live PlaceFits s = Steady Live PlaceFits (profile .most (s .settings)) (s .machine)
+Kept profile Live PlaceFits s = Steady Live PlaceFits (profile .rules (s .settings) .most) (s .machine)
 
-module _ {S C R : Type 0} {profile : Profile S C} {read : List ℕ → R} {seen : R → Seen} {Live : ℕ → Type 0} {Fits : C → Type 0} {PlaceFits : Point → Type 0} (law : Laws profile read seen Live Fits PlaceFits) where
-  pub frames-kept : (s : Stream S) (fs : List (Frame C)) → All (FrameFits Fits) fs → Kept profile Live PlaceFits s → Steady Live PlaceFits (profile .most (s .settings)) (machineAt profile s fs)
+module _ {S C R : Type 0} {profile : Profile S C} {table : ℕ → ℕ → ℕ} {read : List ℕ → R} {seen : R → Seen} {Live : ℕ → Type 0} {Fits : C → Type 0} {PlaceFits : Point → Type 0} (law : Laws profile table read seen Live Fits PlaceFits) where
+  pub frames-kept : (s : Stream S) (fs : List (Frame C)) → All (FrameFits Fits) fs → Kept profile Live PlaceFits s → Steady Live PlaceFits (profile .rules (s .settings) .most) (machineAt profile s fs)
   frames-kept s fs f k = run-steady law (s .settings) (s .machine) (timedFrames (profile .untimed (s .settings)) fs) (timed-fit Fits (profile .untimed (s .settings)) fs f) k
 
   pub next-kept : (s : Stream S) (g : Given S C) → Proper Fits s g → Kept profile Live PlaceFits s → Kept profile Live PlaceFits (next profile s g)
   unfolding next
   next-kept s nothing p k = k
-  next-kept s (settings x) p k = resting-steady law (profile .most x) (s .machine) p
+  next-kept s (settings x) p k = resting-steady law (profile .rules x .most) (s .machine) p
   next-kept s (frames fs) p k = frames-kept s fs p k
-  next-kept s (dismissal id) p k = dismiss-steady law (profile .most (s .settings)) (s .machine) id k
+  next-kept s (dismissal id) p k = dismiss-steady law (profile .rules (s .settings) .most) (s .machine) id k
 
   pub after-kept : (s : Stream S) (gs : List (Given S C)) → AllProper profile Fits s gs → Kept profile Live PlaceFits s → Kept profile Live PlaceFits (after profile s gs)
   unfolding after AllProper
@@ -56,4 +56,4 @@ module _ {S C R : Type 0} {profile : Profile S C} {read : List ℕ → R} {seen 
 pub counts-at : {S C : Type 0} (profile : Profile S C) (s : Stream S) (fs : List (Frame C)) → total (countsAt profile s fs) ≡ length fs
 counts-at profile s fs =
     let u = profile .untimed (s .settings) in
-    counts-total (profile .view) (rulesFor profile (s .settings)) (s .machine) (timedFrames u fs) ∙ timed-length u fs
+    counts-total (profile .view) (profile .rules (s .settings)) (s .machine) (timedFrames u fs) ∙ timed-length u fs

@@ -25,7 +25,7 @@ use Rattle.machine.specs.Machine.{Machine, storedBytes, cancelFlags, cancelByte
 use Rattle.machine.proofs.Table.{state-same, place-same, state-other, place-other, resting-state, resting-place}
 use Rattle.machine.proofs.Conforms.{every-first, every-others, distinct-first, distinct-others, legal-behind, stays-behind}
 use Rattle.machine.proofs.Machine.{cancel-active, cancel-out}
-use Rattle.stream.specs.Stream.{Profile, Stream, Given, nothing, settings, frames, dismissal, rulesFor, next, wrote, after, written}
+use Rattle.stream.specs.Stream.{Profile, Stream, Given, nothing, settings, frames, dismissal, next, wrote, after, written}
 use Rattle.stream.specs.Path.{recordsFrom, recordsIn, Seen, head, contact, Path, at, andOn, mayStep, stepped, pathStep, path}
 use Rattle.stream.specs.Asked.{Laws, All, FrameFits, Proper, AllProper}
 use Rattle.stream.proofs.Steadiness.{Sound, Conforming, conforming, moved-sound, Judged, judged, injects, ignores, Steady, step-steady, resting-steady, beyond}
@@ -103,12 +103,12 @@ out-of s h = go (eqb s out) refl h
     go true e k = eqb-true _ _ e
     go false e k = never refl k
 
-module _ {S C R : Type 0} {profile : Profile S C} {read : List ℕ → R} {seen : R → Seen} {Live : ℕ → Type 0} {Fits : C → Type 0} {PlaceFits : Point → Type 0} (law : Laws profile read seen Live Fits PlaceFits) where
+module _ {S C R : Type 0} {profile : Profile S C} {table : ℕ → ℕ → ℕ} {read : List ℕ → R} {seen : R → Seen} {Live : ℕ → Type 0} {Fits : C → Type 0} {PlaceFits : Point → Type 0} (law : Laws profile table read seen Live Fits PlaceFits) where
   abbrev LeadsBy : ℕ → ℕ → Point → List ℕ → ℕ → Point → Type 0
-  LeadsBy = Leads (profile .next) read seen
+  LeadsBy = Leads table read seen
 
   abbrev MovesBy : ℕ → Table → List ℕ → Table → Type 0
-  MovesBy = Moves (profile .next) read seen
+  MovesBy = Moves table read seen
 
   abbrev SoundBy : Table → Type 0
   SoundBy = Sound Live PlaceFits
@@ -129,8 +129,8 @@ module _ {S C R : Type 0} {profile : Profile S C} {read : List ℕ → R} {seen 
         leads-one id s p (profile .view .bytes kind c) shown s p (law .records .long kind c) (λ rest. law .records .contact-seen kind c rest low high f)
         (rw (ne-eqb (profile .view .id c) id n))
 
-    own-leads : (s : ℕ) (p : Point) (s′ : ℕ) (p′ : Point) → mayStep (profile .next) kind (profile .view .flags c) (profile .view .place c) s p ≡ true
-        → stepped (profile .next) (profile .view .flags c) (profile .view .place c) s ≡ at s′ p′ → LeadsBy (profile .view .id c) s p (profile .view .bytes kind c) s′ p′
+    own-leads : (s : ℕ) (p : Point) (s′ : ℕ) (p′ : Point) → mayStep table kind (profile .view .flags c) (profile .view .place c) s p ≡ true
+        → stepped table (profile .view .flags c) (profile .view .place c) s ≡ at s′ p′ → LeadsBy (profile .view .id c) s p (profile .view .bytes kind c) s′ p′
     unfolding pathStep
     own-leads s p s′ p′ m e =
         leads-one (profile .view .id c) s p (profile .view .bytes kind c) shown s′ p′ (law .records .long kind c) (λ rest. law .records .contact-seen kind c rest low high f)
@@ -139,17 +139,17 @@ module _ {S C R : Type 0} {profile : Profile S C} {read : List ℕ → R} {seen 
   -- ---- the contacts of a frame that conforms
 
   module _ (id : ℕ) where
-    may-step : (t : Table) (c : C) → legal (profile .view) (profile .next) t c ≡ true → stays (profile .view) t c ≡ true
-        → mayStep (profile .next) touched (profile .view .flags c) (profile .view .place c) (stateAt t (profile .view .id c)) (placeAt t (profile .view .id c)) ≡ true
-    may-step t c l k = rw (not-true (eqb (nextOf (profile .view) (profile .next) t c) illegal) l) k
+    may-step : (t : Table) (c : C) → legal (profile .view) table t c ≡ true → stays (profile .view) t c ≡ true
+        → mayStep table touched (profile .view .flags c) (profile .view .place c) (stateAt t (profile .view .id c)) (placeAt t (profile .view .id c)) ≡ true
+    may-step t c l k = rw (not-true (eqb (nextOf (profile .view) table t c) illegal) l) k
 
-    moved-leads : (t : Table) (c : C) → SoundBy t → Fits c → legal (profile .view) (profile .next) t c ≡ true → stays (profile .view) t c ≡ true
-        → MovesBy id t (profile .view .bytes touched c) (moved (profile .view) (profile .next) t c)
+    moved-leads : (t : Table) (c : C) → SoundBy t → Fits c → legal (profile .view) table t c ≡ true → stays (profile .view) t c ≡ true
+        → MovesBy id t (profile .view .bytes touched c) (moved (profile .view) table t c)
     unfolding moved
     moved-leads t c h f l k = go (eqb (profile .view .id c) id) refl
       where
         s : ℕ
-        s = nextOf (profile .view) (profile .next) t c
+        s = nextOf (profile .view) table t c
 
         q : Point
         q = placeIn s (profile .view .place c)
@@ -164,28 +164,29 @@ module _ {S C R : Type 0} {profile : Profile S C} {read : List ℕ → R} {seen 
             rw (state-other t (profile .view .id c) s q id (λ z. n (sym z)), place-other t (profile .view .id c) s q id (λ z. n (sym z)))
             (other-leads touched c (omega arith) (omega arith) f id (stateAt t id) (placeAt t id) n)
 
-    contacts-lead : (t : Table) (cs : List C) → SoundBy t → All Fits cs → distinct (profile .view) cs ≡ true → every (legal (profile .view) (profile .next) t) cs ≡ true → every (stays (profile .view) t) cs ≡ true
-        → MovesBy id t (contactsBytes (profile .view .bytes touched) cs) (tableAfter (profile .view) (profile .next) t cs)
+    contacts-lead : (t : Table) (cs : List C) → SoundBy t → All Fits cs → distinct (profile .view) cs ≡ true → every (legal (profile .view) table t) cs ≡ true → every (stays (profile .view) t) cs ≡ true
+        → MovesBy id t (contactsBytes (profile .view .bytes touched) cs) (tableAfter (profile .view) table t cs)
     unfolding contactsBytes tableAfter
     contacts-lead t [] h f d l k = moves-none id t
     contacts-lead t (c ∷ cs) h f d l k =
-        let u = moved (profile .view) (profile .next) t c in
-        let lc = every-first (legal (profile .view) (profile .next) t) c cs l in
+        let u = moved (profile .view) table t c in
+        let lc = every-first (legal (profile .view) table t) c cs l in
         let o = distinct-first (profile .view) c cs d in
         let i =
         contacts-lead u cs (moved-sound law t c h (f .0) lc) (f .1) (distinct-others (profile .view) c cs d)
-        (legal-behind (profile .view) (profile .next) t c cs o ∙ every-others (legal (profile .view) (profile .next) t) c cs l)
-        (stays-behind (profile .view) (profile .next) t c cs o ∙ every-others (stays (profile .view) t) c cs k) in
-        moves-then id t (profile .view .bytes touched c) u (contactsBytes (profile .view .bytes touched) cs) (tableAfter (profile .view) (profile .next) u cs)
+        (legal-behind (profile .view) table t c cs o ∙ every-others (legal (profile .view) table t) c cs l)
+        (stays-behind (profile .view) table t c cs o ∙ every-others (stays (profile .view) t) c cs k) in
+        moves-then id t (profile .view .bytes touched c) u (contactsBytes (profile .view .bytes touched) cs) (tableAfter (profile .view) table u cs)
         (moved-leads t c h (f .0) lc (every-first (stays (profile .view) t) c cs k)) i
 
-    frame-leads : (x : S) (t : Table) (f : Frame C) → SoundBy t → FrameFits Fits f → Conforming (profile .view) (rulesFor profile x) t (f .contacts)
-        → MovesBy id t (frameBytes (profile .view .bytes touched) f) (tableAfter (profile .view) (profile .next) t (f .contacts))
+    frame-leads : (x : S) (t : Table) (f : Frame C) → SoundBy t → FrameFits Fits f → Conforming (profile .view) (profile .rules x) t (f .contacts)
+        → MovesBy id t (frameBytes (profile .view .bytes touched) f) (tableAfter (profile .view) (profile .rules x .next) t (f .contacts))
     unfolding frameBytes
     frame-leads x t f h hf c =
-        moves-then id t (headBytes (headOf f)) t (contactsBytes (profile .view .bytes touched) (f .contacts)) (tableAfter (profile .view) (profile .next) t (f .contacts))
+        rw (law .one-table x)
+        (moves-then id t (headBytes (headOf f)) t (contactsBytes (profile .view .bytes touched) (f .contacts)) (tableAfter (profile .view) table t (f .contacts))
         (head-leads id (stateAt t id) (placeAt t id) (headOf f) (hf .head))
-        (contacts-lead t (f .contacts) h (hf .contacts) (c .distinct) (c .legal) (c .stays))
+        (contacts-lead t (f .contacts) h (hf .contacts) (c .distinct) (rw (law .one-table x) at (c .legal)) (c .stays)))
 
   -- ---- records that no message carries: of the stored position, whose flags lead out of range
 
@@ -208,7 +209,7 @@ module _ {S C R : Type 0} {profile : Profile S C} {read : List ℕ → R} {seen 
     stored-other : (k s : ℕ) (p : Point) → (id ≡ k → ⊥) → LeadsBy k s p (storedBytes (profile .view) kind flags t id) s p
     stored-other k s p n = other-leads kind stored (omega arith) high stored-fits k s p (λ e. n (sym stored-id ∙ e))
 
-    stored-own : profile .next flags (stateAt t id) ≡ out → LeadsBy id (stateAt t id) (placeAt t id) (storedBytes (profile .view) kind flags t id) out origin
+    stored-own : table flags (stateAt t id) ≡ out → LeadsBy id (stateAt t id) (placeAt t id) (storedBytes (profile .view) kind flags t id) out origin
     stored-own e =
         rw stored-id at
         (own-leads kind stored (omega arith) high stored-fits (stateAt t id) (placeAt t id) out origin
@@ -231,7 +232,7 @@ module _ {S C R : Type 0} {profile : Profile S C} {read : List ℕ → R} {seen 
         go : (b : Bool) → active (stateAt t id) ≡ b → LeadsBy id (stateAt t id) (placeAt t id) (cancelBytes (profile .view) t id) out origin
         go true e =
             rw (cancel-active (profile .view) t id e)
-            (stored-own t h cancelKind (cancelFlags (stateAt t id)) id (lit< tt) (lit≤ tt) (cancel-small (stateAt t id)) l (law .table .cancel (stateAt t id) (h .states id) e))
+            (stored-own t h cancelKind (cancelFlags (stateAt t id)) id (lit< tt) (lit≤ tt) (cancel-small (stateAt t id)) l (law .steps .cancel (stateAt t id) (h .states id) e))
         go false e =
             let z = out-of (stateAt t id) e in
             rw (cancel-out (profile .view) t id e, z, h .places id z) (leads-none id out origin)
@@ -272,8 +273,8 @@ module _ {S C R : Type 0} {profile : Profile S C} {read : List ℕ → R} {seen 
     unfolding dismissBytes dismissTable
     dismissal-leads i id = go (eqb (stateAt t i) hovering) refl (ltb i contacts) refl
       where
-        next-out : stateAt t i ≡ hovering → profile .next 0x02 (stateAt t i) ≡ out
-        next-out e = let l : Live hovering = rw (← e) (h .states i) in rw e (law .table .dismiss l)
+        next-out : stateAt t i ≡ hovering → table 0x02 (stateAt t i) ≡ out
+        next-out e = let l : Live hovering = rw (← e) (h .states i) in rw e (law .steps .dismiss l)
 
         go : (b : Bool) → eqb (stateAt t i) hovering ≡ b → (c : Bool) → ltb i contacts ≡ c
             → MovesBy id t (cond b (storedBytes (profile .view) dismissKind 0x02 t i) []) (cond b (withContact t i out origin) t)
@@ -299,22 +300,22 @@ module _ {S C R : Type 0} {profile : Profile S C} {read : List ℕ → R} {seen 
   -- ---- frames, messages, histories
 
   module _ (id : ℕ) (l : id < contacts) where
-    step-leads : (x : S) (m : Machine) (f : Frame C) → Steady Live PlaceFits (profile .most x) m → FrameFits Fits f
-        → MovesBy id (m .table) (stepBytes (profile .view) (rulesFor profile x) m f) (stepMachine (profile .view) (rulesFor profile x) m f .table)
-    step-leads x m f h hf = go (judged (profile .view) (rulesFor profile x) m f)
+    step-leads : (x : S) (m : Machine) (f : Frame C) → Steady Live PlaceFits (profile .rules x .most) m → FrameFits Fits f
+        → MovesBy id (m .table) (stepBytes (profile .view) (profile .rules x) m f) (stepMachine (profile .view) (profile .rules x) m f .table)
+    step-leads x m f h hf = go (judged (profile .view) (profile .rules x) m f)
       where
-        go : {n : Machine} {s : List ℕ} → Judged (profile .view) (rulesFor profile x) m f n s → MovesBy id (m .table) s (n .table)
-        go (injects c) = frame-leads id x (m .table) f (h .table) hf (conforming (profile .view) (rulesFor profile x) (m .table) (f .contacts) c)
+        go : {n : Machine} {s : List ℕ} → Judged (profile .view) (profile .rules x) m f n s → MovesBy id (m .table) s (n .table)
+        go (injects c) = frame-leads id x (m .table) f (h .table) hf (conforming (profile .view) (profile .rules x) (m .table) (f .contacts) c)
         go ignores = moves-none id (m .table)
         go Judged.cancels = cancels-lead (m .table) (h .table) id l
 
-    run-leads : (x : S) (m : Machine) (fs : List (Frame C)) → Steady Live PlaceFits (profile .most x) m → All (FrameFits Fits) fs
-        → MovesBy id (m .table) (runBytes (profile .view) (rulesFor profile x) m fs) (runMachine (profile .view) (rulesFor profile x) m fs .table)
+    run-leads : (x : S) (m : Machine) (fs : List (Frame C)) → Steady Live PlaceFits (profile .rules x .most) m → All (FrameFits Fits) fs
+        → MovesBy id (m .table) (runBytes (profile .view) (profile .rules x) m fs) (runMachine (profile .view) (profile .rules x) m fs .table)
     unfolding runBytes runMachine
     run-leads x m [] h hf = moves-none id (m .table)
     run-leads x m (f ∷ fs) h hf =
-        let n = stepMachine (profile .view) (rulesFor profile x) m f in
-        moves-then id (m .table) (stepBytes (profile .view) (rulesFor profile x) m f) (n .table) (runBytes (profile .view) (rulesFor profile x) n fs) (runMachine (profile .view) (rulesFor profile x) n fs .table)
+        let n = stepMachine (profile .view) (profile .rules x) m f in
+        moves-then id (m .table) (stepBytes (profile .view) (profile .rules x) m f) (n .table) (runBytes (profile .view) (profile .rules x) n fs) (runMachine (profile .view) (profile .rules x) n fs .table)
         (step-leads x m f h (hf .0)) (run-leads x n fs (step-steady law x m f (hf .0) h) (hf .1))
 
     next-leads : (s : Stream S) (g : Given S C) → Proper Fits s g → Kept profile Live PlaceFits s → MovesBy id (s .machine .table) (wrote profile s g) (next profile s g .machine .table)
@@ -335,7 +336,7 @@ module _ {S C R : Type 0} {profile : Profile S C} {read : List ℕ → R} {seen 
         (next-leads s g (p .0) k) (written-leads n gs (p .1) (next-kept law s g (p .0) k))
 
     pub legal-path : (s : Stream S) (gs : List (Given S C)) → s .machine .table ≡ resting → AllProper profile Fits s gs
-        → let t : Table = after profile s gs .machine .table in path (profile .next) seen id (recordsIn read (written profile s gs)) out origin ≡ at (stateAt t id) (placeAt t id)
+        → let t : Table = after profile s gs .machine .table in path table seen id (recordsIn read (written profile s gs)) out origin ≡ at (stateAt t id) (placeAt t id)
     legal-path s gs e p =
         moves-path id (s .machine .table) (written profile s gs) (after profile s gs .machine .table) e
-        (written-leads s gs p (resting-steady law (profile .most (s .settings)) (s .machine) e))
+        (written-leads s gs p (resting-steady law (profile .rules (s .settings) .most) (s .machine) e))

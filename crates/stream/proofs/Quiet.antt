@@ -17,7 +17,7 @@ use Rattle.machine.specs.Machine.{Machine, cancelled, opening, verdict, cancels
 use Rattle.machine.proofs.Table.{resting-state}
 use Rattle.machine.proofs.Conforms.{every-first, every-others}
 use Rattle.machine.proofs.Machine.{verdict-other, ignored-machine, ignored-bytes, cancelled-machine, cancelled-bytes, machine-append, bytes-append, keep-table, keep-bytes}
-use Rattle.stream.specs.Stream.{Profile, Stream, Given, nothing, settings, frames, dismissal, framesIn, opens, unopened, Unopened, Silent, rulesFor, machineAt, bytesAt, CancelledAfter, next, wrote, after, written}
+use Rattle.stream.specs.Stream.{Profile, Stream, Given, nothing, settings, frames, dismissal, framesIn, opens, unopened, Unopened, Silent, machineAt, bytesAt, CancelledAfter, next, wrote, after, written}
 
 -- what a cancelled frame leaves
 abbrev pub silenced : Machine
@@ -90,8 +90,8 @@ module _ {S C : Type 0} (profile : Profile S C) where
       let v = timed-unopened (profile .view) b fs ∙ u in
       let e : s .machine ≡ silenced = λ i. record { table = k .resting i; running = k .ignoring i } in
       record {
-        still = silent-by (next profile s (frames fs)) (quiet-machine (profile .view) (rulesFor profile (s .settings)) (s .machine) (timedFrames b fs) (k .ignoring) v ∙ e);
-        none = quiet-bytes (profile .view) (rulesFor profile (s .settings)) (s .machine) (timedFrames b fs) (k .ignoring) v;
+        still = silent-by (next profile s (frames fs)) (quiet-machine (profile .view) (profile .rules (s .settings)) (s .machine) (timedFrames b fs) (k .ignoring) v ∙ e);
+        none = quiet-bytes (profile .view) (profile .rules (s .settings)) (s .machine) (timedFrames b fs) (k .ignoring) v;
       }
   next-quiet s (dismissal id) k u =
       let n : stateAt (s .machine .table) id ≡ hovering → ⊥ = λ h. omega (arith, ap (λ (t : Table). stateAt t id) (k .resting) ∙ resting-state id) in
@@ -119,7 +119,7 @@ module _ {S C : Type 0} (profile : Profile S C) where
     untimed = profile .untimed (s .settings)
 
     abbrev rules : Rules C
-    rules = rulesFor profile (s .settings)
+    rules = profile .rules (s .settings)
 
     parts : timedFrames untimed (fs ++ (f ∷ gs)) ≡ timedFrames untimed fs ++ (timedFrame untimed f ∷ (timedFrames untimed gs ++ []))
     parts = timed-append untimed fs (f ∷ gs) ∙ rw (timed-cons untimed f gs, append-nil)

@@ -12,7 +12,7 @@ use Rattle.machine.specs.Rules.{View, Rules}
 use Rattle.machine.specs.Conforms.{conforms}
 use Rattle.machine.specs.Machine.{Machine, injected, cancelled, verdict, machineAfter, bytesFor, stepMachine, stepBytes, runMachine, runBytes}
 use Rattle.machine.proofs.Machine.{machine-append, bytes-append}
-use Rattle.stream.specs.Stream.{Profile, Stream, Given, frames, begunAfter, opens, rested, NoneActive, rulesFor, machineAt, bytesAt, next, wrote, after, written, AsRested}
+use Rattle.stream.specs.Stream.{Profile, Stream, Given, frames, begunAfter, opens, rested, NoneActive, machineAt, bytesAt, next, wrote, after, written, AsRested}
 use Rattle.stream.specs.Path.{Seen}
 use Rattle.stream.specs.Asked.{Laws, All, FrameFits}
 use Rattle.stream.proofs.Steadiness.{none-active-rests}
@@ -73,7 +73,7 @@ module _ {S C : Type 0} (profile : Profile S C) (s : Stream S) (fs : List (Frame
   untimed = profile .untimed (s .settings)
 
   abbrev rules : Rules C
-  rules = rulesFor profile (s .settings)
+  rules = profile .rules (s .settings)
 
   timed-open : opens (profile .view) (timedFrame untimed f) ≡ true
   timed-open = timed-opens (profile .view) untimed f ∙ o
@@ -120,7 +120,7 @@ module _ {S C : Type 0} (profile : Profile S C) (s : Stream S) (fs : List (Frame
             ∙ append-assoc (bytesAt profile s fs) (wrote profile (rested (s .settings)) (frames (f ∷ gs))) (written profile q more);
       }
 
-module _ {S C R : Type 0} {profile : Profile S C} {read : List ℕ → R} {seen : R → Seen} {Live : ℕ → Type 0} {Fits : C → Type 0} {PlaceFits : Point → Type 0} (law : Laws profile read seen Live Fits PlaceFits) where
+module _ {S C R : Type 0} {profile : Profile S C} {table : ℕ → ℕ → ℕ} {read : List ℕ → R} {seen : R → Seen} {Live : ℕ → Type 0} {Fits : C → Type 0} {PlaceFits : Point → Type 0} (law : Laws profile table read seen Live Fits PlaceFits) where
   -- no contact active is the resting table
   pub as-rested : (s : Stream S) → Kept profile Live PlaceFits s → (fs : List (Frame C)) (f : Frame C) (gs : List (Frame C)) → All (FrameFits Fits) (fs ++ (f ∷ gs)) → opens (profile .view) f ≡ true
       → NoneActive (machineAt profile s fs .table) → (more : List (Given S C)) → AsRested profile s fs f gs more

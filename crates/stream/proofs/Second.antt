@@ -73,7 +73,7 @@ abbrev tapView : View Tap
 tapView = record { id = λ c. c .id; flags = λ c. c .flags; place = λ c. c .place; bare = λ f i p. record { id = i; flags = f; place = p }; bytes = tapBytes }
 
 abbrev taps : Profile Unit Tap
-taps = record { view = tapView; next = tapNext; passes = λ c. ltb (c .id) 16; most = λ x. 1; untimed = λ x. false }
+taps = record { view = tapView; rules = λ x. record { next = tapNext; most = 1; passes = λ c. ltb (c .id) 16 }; untimed = λ x. false }
 
 -- ---- what is asked of the table
 
@@ -156,10 +156,11 @@ tap-contact kind c rest l h f =
     rw (le-leb _ _ (front-long (tapBytes kind c) rest (tap-long kind c)), front-is (tapBytes kind c) rest (tap-long kind c), tap-kind kind c h, ne-eqb kind 0 (λ z. omega arith), tap-fields kind c)
     (tap-shown kind c f)
 
-tap-law : Laws taps tapSeen (λ x. x) Live TapFits Near
+tap-law : Laws taps tapNext tapSeen (λ x. x) Live TapFits Near
 tap-law =
     record {
-      table = tap-table;
+      one-table = λ x. refl;
+      steps = tap-table;
       records = record {
         long = tap-long;
         head-seen = tap-head;

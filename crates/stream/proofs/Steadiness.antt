@@ -21,7 +21,7 @@ use Rattle.machine.specs.Conforms.{every, distinct, nextOf, legal, stays, place
 use Rattle.machine.specs.Machine.{Machine, opening, Verdict, injected, ignored, cancelled, verdict, machineAfter, bytesFor, cancels as cancelsOf, stepMachine, stepBytes, runMachine, dismissTable}
 use Rattle.machine.proofs.Table.{Whole, state-same, state-other, place-same, place-other, with-whole, count-set, resting-whole, resting-state, resting-place, resting-count}
 use Rattle.machine.proofs.Conforms.{both-left, both-right, every-first, every-others, distinct-first, distinct-others, legal-behind}
-use Rattle.stream.specs.Stream.{Profile, rulesFor, NoneActive}
+use Rattle.stream.specs.Stream.{Profile, NoneActive}
 use Rattle.stream.specs.Path.{Seen}
 use Rattle.stream.specs.Asked.{Laws, All, FrameFits}
 
@@ -126,12 +126,12 @@ pub record Steady (Live : ℕ → Type 0) (PlaceFits : Point → Type 0) (most :
   pub few : countActive (m .table .states) ≤ most
   pub ignoring : m .running ≡ false → m .table ≡ resting
 
-module _ {S C R : Type 0} {profile : Profile S C} {read : List ℕ → R} {seen : R → Seen} {Live : ℕ → Type 0} {Fits : C → Type 0} {PlaceFits : Point → Type 0} (law : Laws profile read seen Live Fits PlaceFits) where
+module _ {S C R : Type 0} {profile : Profile S C} {table : ℕ → ℕ → ℕ} {read : List ℕ → R} {seen : R → Seen} {Live : ℕ → Type 0} {Fits : C → Type 0} {PlaceFits : Point → Type 0} (law : Laws profile table read seen Live Fits PlaceFits) where
   pub resting-sound : Sound Live PlaceFits resting
   resting-sound =
       record {
         whole = resting-whole;
-        states = λ id. rw (resting-state id) (law .table .start);
+        states = λ id. rw (resting-state id) (law .steps .start);
         places = λ id h. resting-place id;
         fits = λ id. rw (resting-place id) (law .records .origin-fits);
       }
@@ -153,45 +153,45 @@ module _ {S C R : Type 0} {profile : Profile S C} {read : List ℕ → R} {seen 
 
   -- ---- contacts that are legal
 
-  pub moved-sound : (t : Table) (c : C) → Sound Live PlaceFits t → Fits c → legal (profile .view) (profile .next) t c ≡ true → Sound Live PlaceFits (moved (profile .view) (profile .next) t c)
+  pub moved-sound : (t : Table) (c : C) → Sound Live PlaceFits t → Fits c → legal (profile .view) table t c ≡ true → Sound Live PlaceFits (moved (profile .view) table t c)
   unfolding moved
   moved-sound t c h f l =
-      let s = nextOf (profile .view) (profile .next) t c in
+      let s = nextOf (profile .view) table t c in
       let n : s ≡ illegal → ⊥ = eqb-false _ _ (not-true _ l) in
-      let live = law .table .step (profile .view .flags c) (stateAt t (profile .view .id c)) (h .states (profile .view .id c)) n in
+      let live = law .steps .step (profile .view .flags c) (stateAt t (profile .view .id c)) (h .states (profile .view .id c)) n in
       with-sound t (profile .view .id c) s (placeIn s (profile .view .place c)) h (law .records .id-fits c f) live (place-in s (profile .view .place c)) (place-in-fits s (profile .view .place c) (law .records .place-fits c f))
 
-  after-sound : (t : Table) (cs : List C) → Sound Live PlaceFits t → All Fits cs → distinct (profile .view) cs ≡ true → every (legal (profile .view) (profile .next) t) cs ≡ true
-      → Sound Live PlaceFits (tableAfter (profile .view) (profile .next) t cs)
+  after-sound : (t : Table) (cs : List C) → Sound Live PlaceFits t → All Fits cs → distinct (profile .view) cs ≡ true → every (legal (profile .view) table t) cs ≡ true
+      → Sound Live PlaceFits (tableAfter (profile .view) table t cs)
   unfolding tableAfter
   after-sound t [] h f d l = h
   after-sound t (c ∷ cs) h f d l =
-      let m = moved-sound t c h (f .0) (every-first (legal (profile .view) (profile .next) t) c cs l) in
-      let k = legal-behind (profile .view) (profile .next) t c cs (distinct-first (profile .view) c cs d) ∙ every-others (legal (profile .view) (profile .next) t) c cs l in
-      after-sound (moved (profile .view) (profile .next) t c) cs m (f .1) (distinct-others (profile .view) c cs d) k
+      let m = moved-sound t c h (f .0) (every-first (legal (profile .view) table t) c cs l) in
+      let k = legal-behind (profile .view) table t c cs (distinct-first (profile .view) c cs d) ∙ every-others (legal (profile .view) table t) c cs l in
+      after-sound (moved (profile .view) table t c) cs m (f .1) (distinct-others (profile .view) c cs d) k
 
   -- ---- frames
 
   module _ (x : S) where
-    pub step-steady : (m : Machine) (f : Frame C) → FrameFits Fits f → Steady Live PlaceFits (profile .most x) m → Steady Live PlaceFits (profile .most x) (stepMachine (profile .view) (rulesFor profile x) m f)
-    step-steady m f hf h = go (judged (profile .view) (rulesFor profile x) m f)
+    pub step-steady : (m : Machine) (f : Frame C) → FrameFits Fits f → Steady Live PlaceFits (profile .rules x .most) m → Steady Live PlaceFits (profile .rules x .most) (stepMachine (profile .view) (profile .rules x) m f)
+    step-steady m f hf h = go (judged (profile .view) (profile .rules x) m f)
       where
-        go : {n : Machine} {s : List ℕ} → Judged (profile .view) (rulesFor profile x) m f n s → Steady Live PlaceFits (profile .most x) n
+        go : {n : Machine} {s : List ℕ} → Judged (profile .view) (profile .rules x) m f n s → Steady Live PlaceFits (profile .rules x .most) n
         go (injects c) =
-            let k = conforming (profile .view) (rulesFor profile x) (m .table) (f .contacts) c in
+            let k = conforming (profile .view) (profile .rules x) (m .table) (f .contacts) c in
             record {
-              table = after-sound (m .table) (f .contacts) (h .table) (hf .contacts) (k .distinct) (k .legal);
+              table = rw (law .one-table x) (after-sound (m .table) (f .contacts) (h .table) (hf .contacts) (k .distinct) (rw (law .one-table x) at (k .legal)));
               few = k .few;
               ignoring = λ e. never refl e;
             }
         go ignores = h
-        go cancels = resting-steady (profile .most x) (record { table = resting; running = false }) refl
+        go cancels = resting-steady (profile .rules x .most) (record { table = resting; running = false }) refl
 
-    pub run-steady : (m : Machine) (fs : List (Frame C)) → All (FrameFits Fits) fs → Steady Live PlaceFits (profile .most x) m
-        → Steady Live PlaceFits (profile .most x) (runMachine (profile .view) (rulesFor profile x) m fs)
+    pub run-steady : (m : Machine) (fs : List (Frame C)) → All (FrameFits Fits) fs → Steady Live PlaceFits (profile .rules x .most) m
+        → Steady Live PlaceFits (profile .rules x .most) (runMachine (profile .view) (profile .rules x) m fs)
     unfolding runMachine
     run-steady m [] hf h = h
-    run-steady m (f ∷ fs) hf h = run-steady (stepMachine (profile .view) (rulesFor profile x) m f) fs (hf .1) (step-steady m f (hf .0) h)
+    run-steady m (f ∷ fs) hf h = run-steady (stepMachine (profile .view) (profile .rules x) m f) fs (hf .1) (step-steady m f (hf .0) h)
 
   -- ---- a dismissal
 
@@ -206,7 +206,7 @@ module _ {S C R : Type 0} {profile : Profile S C} {read : List ℕ → R} {seen 
         go true e false g = let z : stateAt t id ≡ hovering = eqb-true _ _ e in absurd (omega (arith, beyond t id (h .whole) (ltb-false _ _ g)))
 
     dismiss-sound : Sound Live PlaceFits (dismissTable t id)
-    dismiss-sound = dismiss-keeps (Sound Live PlaceFits) h (λ e l. with-sound t id out origin h l (law .table .start) (λ z. refl) (law .records .origin-fits))
+    dismiss-sound = dismiss-keeps (Sound Live PlaceFits) h (λ e l. with-sound t id out origin h l (law .steps .start) (λ z. refl) (law .records .origin-fits))
 
     dismiss-few : (n : ℕ) → countActive (t .states) ≤ n → countActive (dismissTable t id .states) ≤ n
     unfolding withContact

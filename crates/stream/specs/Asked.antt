@@ -20,11 +20,11 @@ use Rattle.stream.specs.Path.{Seen, head, contact}
 
 -- of a state table: contacts are in some states, its live ones, out of range among them. A legal step leads from a live state to a live one, and
 -- the flags of a cancel and of a dismissal lead out of range.
-pub record TableLaw (next : ℕ → ℕ → ℕ) (Live : ℕ → Type 0) : Type 0 where
+pub record TableLaw (table : ℕ → ℕ → ℕ) (Live : ℕ → Type 0) : Type 0 where
   pub start : Live out
-  pub step : (flags s : ℕ) → Live s → (next flags s ≡ illegal → ⊥) → Live (next flags s)
-  pub cancel : (s : ℕ) → Live s → active s ≡ true → next (cancelFlags s) s ≡ out
-  pub dismiss : Live hovering → next 0x02 hovering ≡ out
+  pub step : (flags s : ℕ) → Live s → (table flags s ≡ illegal → ⊥) → Live (table flags s)
+  pub cancel : (s : ℕ) → Live s → active s ≡ true → table (cancelFlags s) s ≡ out
+  pub dismiss : Live hovering → table 0x02 hovering ≡ out
 
 -- of contacts and their records: which contacts fit their record and which positions, and that a path sees in a record what the machine sees of
 -- the contact
@@ -41,8 +41,10 @@ pub record RecordLaw {C R : Type 0} (view : View C) (read : List ℕ → R) (see
   pub bare-id : (flags id : ℕ) (p : Point) → view .id (view .bare flags id p) ≡ id
   pub bare-place : (flags id : ℕ) (p : Point) → view .place (view .bare flags id p) ≡ p
 
-pub record Laws {S C R : Type 0} (profile : Profile S C) (read : List ℕ → R) (seen : R → Seen) (Live : ℕ → Type 0) (Fits : C → Type 0) (PlaceFits : Point → Type 0) : Type 0 where
-  pub table : TableLaw (profile .next) Live
+-- of a profile: one state table under all settings
+pub record Laws {S C R : Type 0} (profile : Profile S C) (table : ℕ → ℕ → ℕ) (read : List ℕ → R) (seen : R → Seen) (Live : ℕ → Type 0) (Fits : C → Type 0) (PlaceFits : Point → Type 0) : Type 0 where
+  pub one-table : (x : S) → profile .rules x .next ≡ table
+  pub steps : TableLaw table Live
   pub records : RecordLaw (profile .view) read seen Fits PlaceFits
 
 -- ---- of messages

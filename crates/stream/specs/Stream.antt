@@ -11,13 +11,11 @@ use Rattle.machine.specs.Rules.{View, Rules}
 use Rattle.machine.specs.Conforms.{every}
 use Rattle.machine.specs.Machine.{Machine, Counts, cancelled, opening, verdict, runMachine, runBytes, runCounts, dismissTable, dismissBytes}
 
--- what a stream goes by, under settings S and with contacts C: what its machine sees of a contact, the state table, the test that each contact
--- passes; and of the settings, how many contacts may be active and whether offset 0 is written (ready flag 2)
+-- what a stream of contacts C goes by under settings S: what its machine sees of a contact, what it is held to, and whether offset 0 is written
+-- (ready flag 2)
 pub record Profile (S C : Type 0) : Type 0 where
   pub view : View C
-  pub next : ℕ → ℕ → ℕ
-  pub passes : C → Bool
-  pub most : S → ℕ
+  pub rules : S → Rules C
   pub untimed : S → Bool
 
 pub record Stream (S : Type 0) : Type 0 where
@@ -73,24 +71,20 @@ module _ {C : Type 0} (view : View C) where
   Unopened (g ∷ gs) = (unopened (framesIn g) ≡ true) × Unopened gs
 
 module _ {S C : Type 0} (profile : Profile S C) where
-  -- what the machine is held to
-  abbrev pub rulesFor : S → Rules C
-  rulesFor x = record { next = profile .next; most = profile .most x; passes = profile .passes }
-
   -- ---- the first frames of a message: the contacts and the mode after them, what they write, and how they are counted
 
   abbrev pub machineAt : Stream S → List (Frame C) → Machine
-  machineAt s fs = runMachine (profile .view) (rulesFor (s .settings)) (s .machine) (timedFrames (profile .untimed (s .settings)) fs)
+  machineAt s fs = runMachine (profile .view) (profile .rules (s .settings)) (s .machine) (timedFrames (profile .untimed (s .settings)) fs)
 
   abbrev pub bytesAt : Stream S → List (Frame C) → List ℕ
-  bytesAt s fs = runBytes (profile .view) (rulesFor (s .settings)) (s .machine) (timedFrames (profile .untimed (s .settings)) fs)
+  bytesAt s fs = runBytes (profile .view) (profile .rules (s .settings)) (s .machine) (timedFrames (profile .untimed (s .settings)) fs)
 
   abbrev pub countsAt : Stream S → List (Frame C) → Counts
-  countsAt s fs = runCounts (profile .view) (rulesFor (s .settings)) (s .machine) (timedFrames (profile .untimed (s .settings)) fs)
+  countsAt s fs = runCounts (profile .view) (profile .rules (s .settings)) (s .machine) (timedFrames (profile .untimed (s .settings)) fs)
 
   -- the frame f is cancelled, after the frames fs of its message
   abbrev pub CancelledAfter : Stream S → List (Frame C) → Frame C → Type 0
-  CancelledAfter s fs f = verdict (profile .view) (rulesFor (s .settings)) (machineAt s fs) (f .contacts) ≡ cancelled
+  CancelledAfter s fs f = verdict (profile .view) (profile .rules (s .settings)) (machineAt s fs) (f .contacts) ≡ cancelled
 
   -- ---- what one message leaves and writes
 

@@ -2,17 +2,16 @@
 -- Assumes nothing.
 use Prim.Native.Nat.{ℕ, zero, suc}
 use mathlib.Core.Path.{_≡_, refl}
-use mathlib.Core.Bool.{Bool, true, false}
-use mathlib.Core.List.{List, [], _∷_}
-use lib.Dec.{lit<}
+use mathlib.Core.Bool.{Bool, false}
+use mathlib.Core.List.{List, []}
 use Rattle.digits.specs.Digits.{Bytes}
 use Rattle.formats.specs.Format.{Got, got, bad, Format, readSeries}
 use Rattle.formats.proofs.Laws.{Sound, never, more-got}
 use Rattle.fields.specs.Integers.{strict}
 use Rattle.fields.proofs.Laws.{strict-law, strict-range}
-use Rattle.house.specs.Fits.{HeadFits, ContactFits}
+use Rattle.house.specs.Fits.{ContactFits}
 use Rattle.house.specs.declared.Contact.{Contact}
-use Rattle.framing.specs.Frame.{Frame, headOf, timedFrames, timedFrame}
+use Rattle.framing.specs.Frame.{Frame, headOf}
 use Rattle.framing.specs.Format.{bodyFormat}
 use Rattle.touch.specs.Touch.{Touch, contact, frame, touchHead, body}
 use Rattle.framing.specs.declared.BodyHead.{BodyHead}
@@ -21,16 +20,7 @@ use Rattle.framing.proofs.Reading.{body-got, frame-got}
 use Rattle.touch.specs.Limits.{touchLimits}
 use Rattle.touch.proofs.Laws.{contact-law}
 use Rattle.touch.proofs.Ranges.{contact-read, frame-fits}
-
--- each of a list
-abbrev pub All : {A : Type 0} → (A → Type 0) → List A → Type 0
-All P [] = Unit
-All P (a ∷ l) = P a × All P l
-
--- a frame whose records hold it
-pub record FrameFits (f : Frame Contact) : Type 0 where
-  pub head : HeadFits (headOf f)
-  pub contacts : All ContactFits (f .contacts)
+use Rattle.stream.specs.Asked.{All, FrameFits}
 
 module _ {A : Type 0} (f : Bool → Format A) (P : A → Type 0) (sound : (b : Bool) → Sound (f b))
     (each : (b : Bool) (l : List ℕ) (a : A) (t : List ℕ) → Bytes l → f b .read l ≡ got a t → P a) where
@@ -41,7 +31,7 @@ module _ {A : Type 0} (f : Bool → Format A) (P : A → Type 0) (sound : (b : B
       let m = more-got f first n l s t e in
       rw (m .all) (each first l (m .head) (m .after) hl (m .one), all-read false n (m .after) (m .rest) t (sound first l (m .head) (m .after) hl (m .one) .1) (m .others))
 
-frame-read : (judged : Bool) (l : List ℕ) (f : Frame Contact) (t : List ℕ) → Bytes l → frame strict judged .read l ≡ got f t → FrameFits f
+frame-read : (judged : Bool) (l : List ℕ) (f : Frame Contact) (t : List ℕ) → Bytes l → frame strict judged .read l ≡ got f t → FrameFits ContactFits f
 frame-read judged l f t hl e =
     let g = frame-got strict touchLimits (contact strict) judged l f t e in
     let ha = frame-head-law strict strict-law touchLimits judged .sound l (headOf f) (g .after) hl (g .head) .1 in
@@ -52,23 +42,13 @@ frame-read judged l f t hl e =
           false _ (g .after) (f .contacts) t ha (g .contacts);
     }
 
-pub body-fits : (judged : Bool) (l : List ℕ) (m : Touch) (t : List ℕ) → Bytes l → body strict judged l ≡ got m t → All FrameFits (m .frames)
+pub body-fits : (judged : Bool) (l : List ℕ) (m : Touch) (t : List ℕ) → Bytes l → body strict judged l ≡ got m t → All (FrameFits ContactFits) (m .frames)
 unfolding bodyFormat
 body-fits judged l m t hl e = go (touchHead strict .read l) refl
   where
-    go : (x : Got BodyHead) → touchHead strict .read l ≡ x → All FrameFits (m .frames)
+    go : (x : Got BodyHead) → touchHead strict .read l ≡ x → All (FrameFits ContactFits) (m .frames)
     go (bad n) h = never n m t (rw h at e)
     go (got k after) h =
         let b = body-got strict touchLimits (contact strict) judged l m t k after e h in
         let ha = body-head-law strict strict-law touchLimits .sound l k after hl h .1 in
-        all-read (frame strict) FrameFits (λ b. frame-law strict strict-law touchLimits (contact strict) (contact-law strict strict-law) b .sound) frame-read judged (k .frames) after (m .frames) [] ha (b .frames)
-
--- also with offset 0
-timed-fits : (b : Bool) (f : Frame Contact) → FrameFits f → FrameFits (timedFrame b f)
-timed-fits true f h = record { head = record { count = h .head .count; offset = lit< tt }; contacts = h .contacts }
-timed-fits false f h = h
-
-pub frames-fit : (b : Bool) (fs : List (Frame Contact)) → All FrameFits fs → All FrameFits (timedFrames b fs)
-unfolding timedFrames
-frames-fit b [] h = tt
-frames-fit b (f ∷ fs) h = (timed-fits b f (h .0), frames-fit b fs (h .1))
+        all-read (frame strict) (FrameFits ContactFits) (λ b. frame-law strict strict-law touchLimits (contact strict) (contact-law strict strict-law) b .sound) frame-read judged (k .frames) after (m .frames) [] ha (b .frames)

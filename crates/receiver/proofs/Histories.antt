@@ -18,16 +18,18 @@ use Rattle.machine.specs.Table.{contacts, stateAt, placeAt, origin, countActive
 use Rattle.machine.specs.Machine.{Machine, cancelled, verdict, cancels, stepMachine, runMachine, runBytes}
 use Rattle.machine.proofs.Table.{Whole, resting-state}
 use Rattle.machine.proofs.Machine.{cancelled-machine}
+use Rattle.stream.specs.Stream.{opens, unopened, NoneActive}
+use Rattle.stream.specs.Path.{at}
+use Rattle.stream.proofs.Steadiness.{none-active-rests}
+use Rattle.stream.proofs.Quiet.{quiet-bytes, quiet-machine, cancel-bytes, cancel-machine}
 use Rattle.receiver.specs.Receive.{off, fresh, effect, draftOf, Receives}
 use Rattle.receiver.specs.declared.Receiver.{Receiver}
 use Rattle.receiver.specs.declared.Answer.{Answer}
-use Rattle.receiver.specs.History.{Sent, OfBytes, messagesOf, next, answerTo, wrote, after, written, Roomy, tableOf, touchIn, framesTaken, opens, unopened, Unopened, rested, machineAt, bytesAt, messageOf, Cut, AsRested, CancelledAfter, NoneActive, Silent, Unchanged, recordsIn, path, at}
-use Rattle.receiver.proofs.Steadiness.{none-active-rests}
+use Rattle.receiver.specs.History.{Sent, OfBytes, messagesOf, next, answerTo, wrote, after, written, Roomy, tableOf, touchIn, framesTaken, Unopened, rested, machineAt, bytesAt, messageOf, Cut, AsRested, CancelledAfter, Silent, Unchanged, recordsIn, path}
 use Rattle.receiver.proofs.Invariants.{history-kept, answer-counts}
-use Rattle.receiver.proofs.Quiet.{quiet-bytes, quiet-machine, cancel-bytes, cancel-machine, after-quiet, since-cancel}
+use Rattle.receiver.proofs.Demand.{history-path, history-quiet, since-cancel}
 use Rattle.receiver.proofs.Rested.{as-rested}
 use Rattle.receiver.proofs.Cutting.{rest-of-message}
-use Rattle.receiver.proofs.Paths.{legal-path}
 use Rattle.receiver.proofs.Refusing.{left-laid, refusal-changes-nothing, refused-as-none}
 use Rattle.contacts.specs.Touch.{touchView}
 
@@ -44,23 +46,23 @@ a-step-of-the-contract-is-a-step-of-a-history r message before q a after h =
 
 -- All 256 contacts are there.
 pub no-contact-is-lost : (h : List Sent) → OfBytes h → Whole (tableOf (after fresh h))
-no-contact-is-lost h b = history-kept h b .machine .table .whole
+no-contact-is-lost h b = history-kept h b .stream .table .whole
 
 -- Each is out of range, hovering or engaged.
 pub every-contact-is-in-one-of-three-states : (h : List Sent) → OfBytes h → (id : ℕ) → stateAt (tableOf (after fresh h)) id ≤ engaged
-every-contact-is-in-one-of-three-states h b = history-kept h b .machine .table .states
+every-contact-is-in-one-of-three-states h b = history-kept h b .stream .table .states
 
 -- A receiver that ignores has no active contact.
 pub ignoring-means-no-active-contact : (h : List Sent) → OfBytes h → off (after fresh h .ignoring) ≡ false → NoneActive (tableOf (after fresh h))
-ignoring-means-no-active-contact h b e id = rw (history-kept h b .machine .ignoring e) (resting-state id)
+ignoring-means-no-active-contact h b e id = rw (history-kept h b .stream .ignoring e) (resting-state id)
 
 -- "A contact out of range has position 0, 0."
 pub out-of-range-means-position-zero : (h : List Sent) → OfBytes h → (id : ℕ) → stateAt (tableOf (after fresh h)) id ≡ out → placeAt (tableOf (after fresh h)) id ≡ origin
-out-of-range-means-position-zero h b = history-kept h b .machine .table .places
+out-of-range-means-position-zero h b = history-kept h b .stream .table .places
 
 -- So where no contact is active the table is that of a fresh receiver.
 pub no-active-contact-means-the-resting-table : (h : List Sent) → OfBytes h → NoneActive (tableOf (after fresh h)) → tableOf (after fresh h) ≡ resting
-no-active-contact-means-the-resting-table h b = none-active-rests (tableOf (after fresh h)) (history-kept h b .machine .table)
+no-active-contact-means-the-resting-table h b = let t = history-kept h b .stream .table in none-active-rests (tableOf (after fresh h)) (t .whole) (t .places)
 
 -- "The three counts add up to frameCount", of any receiver and of any message that it accepts; without frames, or refused, they are 0.
 pub counts-add-up-to-frame-count : (r : Receiver) (x : Sent) → answerTo r x .injected + answerTo r x .ignored + answerTo r x .cancelled ≡ length (framesTaken r x)
@@ -68,7 +70,7 @@ counts-add-up-to-frame-count = answer-counts
 
 -- "at most maxTouchContacts contacts are active"
 pub at-most-maxTouchContacts-active : (h : List Sent) → OfBytes h → countActive (after fresh h .states) ≤ after fresh h .settings .most
-at-most-maxTouchContacts-active h b = history-kept h b .machine .few
+at-most-maxTouchContacts-active h b = history-kept h b .stream .few
 
 -- ---- "EACH CONTACT'S RECORDS ARE A LEGAL PATH THROUGH THE THREE STATES FROM OUT OF RANGE"
 
@@ -76,7 +78,7 @@ at-most-maxTouchContacts-active h b = history-kept h b .machine .few
 -- where it has to be; and the path ends where the receiver has that contact.
 pub each-contact's-records-are-a-legal-path : (id : ℕ) → id < contacts → (h : List Sent) → OfBytes h
     → path id (recordsIn (written fresh h)) out origin ≡ at (stateAt (tableOf (after fresh h)) id) (placeAt (tableOf (after fresh h)) id)
-each-contact's-records-are-a-legal-path = legal-path
+each-contact's-records-are-a-legal-path = history-path
 
 -- ---- "AFTER A CANCEL'S OWN RECORDS NOTHING IS WRITTEN UNTIL AN OPENING FRAME"
 
@@ -85,31 +87,29 @@ pub a-cancelled-frame-leaves-rest-and-ignoring : (rules : Rules Contact) (m : Ma
 a-cancelled-frame-leaves-rest-and-ignoring = cancelled-machine touchView
 
 -- Frames none of which opens leave a machine that ignores as it is, and write nothing.
-pub frames-that-do-not-open-are-ignored : (rules : Rules Contact) (m : Machine) (fs : List (Frame Contact)) → m .running ≡ false → unopened fs ≡ true → (runBytes touchView rules m fs ≡ []) × (runMachine touchView rules m fs ≡ m)
-frames-that-do-not-open-are-ignored rules m fs h u = (quiet-bytes rules m fs h u, quiet-machine rules m fs h u)
+pub frames-that-do-not-open-are-ignored : (rules : Rules Contact) (m : Machine) (fs : List (Frame Contact)) → m .running ≡ false → unopened touchView fs ≡ true → (runBytes touchView rules m fs ≡ []) × (runMachine touchView rules m fs ≡ m)
+frames-that-do-not-open-are-ignored rules m fs h u = (quiet-bytes touchView rules m fs h u, quiet-machine touchView rules m fs h u)
 
 -- Within a message: after the frames fs, the cancelled frame f writes its records; the frames gs, none of which opens, write nothing; and the
 -- frames hs after them are as to a machine at rest that ignores.
 pub after-a-cancelled-frame-nothing-until-an-opening-one : (rules : Rules Contact) (m : Machine) (fs : List (Frame Contact)) (f : Frame Contact) (gs hs : List (Frame Contact))
-    → verdict touchView rules (runMachine touchView rules m fs) (f .contacts) ≡ cancelled → unopened gs ≡ true
+    → verdict touchView rules (runMachine touchView rules m fs) (f .contacts) ≡ cancelled → unopened touchView gs ≡ true
     → let rest : Machine = record { table = resting; running = false } in
     (runBytes touchView rules m (fs ++ (f ∷ (gs ++ hs))) ≡ (runBytes touchView rules m fs ++ cancels touchView (runMachine touchView rules m fs .table)) ++ runBytes touchView rules rest hs)
     × (runMachine touchView rules m (fs ++ (f ∷ (gs ++ hs))) ≡ runMachine touchView rules rest hs)
-after-a-cancelled-frame-nothing-until-an-opening-one rules m fs f gs hs v u = (cancel-bytes rules m fs f gs hs v u, cancel-machine rules m fs f gs hs v u)
+after-a-cancelled-frame-nothing-until-an-opening-one rules m fs f gs hs v u = (cancel-bytes touchView rules m fs f gs hs v u, cancel-machine touchView rules m fs f gs hs v u)
 
 -- Over messages: a receiver that ignores and has no active contact writes nothing, dismissals included, and stays so, as long as no opening
 -- frame is accepted.
 pub a-silent-receiver-writes-nothing-until-an-opening-frame : (r : Receiver) (h : List Sent) → Silent r → Unopened r h → (written r h ≡ []) × Silent (after r h)
-a-silent-receiver-writes-nothing-until-an-opening-frame r h k u = (after-quiet r h k u .nothing, after-quiet r h k u .still)
+a-silent-receiver-writes-nothing-until-an-opening-frame = history-quiet
 
 -- Both: of an accepted message x with the frames fs, f, gs, where f is cancelled and none of gs opens, and of all messages after it, as long as
 -- no opening frame is accepted, nothing is written but the records of fs and the cancel's own.
 pub after-a-cancel-nothing-until-an-opening-frame : (r : Receiver) (x : Sent) (h : List Sent) (fs : List (Frame Contact)) (f : Frame Contact) (gs : List (Frame Contact))
-    → framesTaken r x ≡ fs ++ (f ∷ gs) → CancelledAfter r fs f → unopened gs ≡ true → Unopened (next r x) h
+    → framesTaken r x ≡ fs ++ (f ∷ gs) → CancelledAfter r fs f → unopened touchView gs ≡ true → Unopened (next r x) h
     → (written r (x ∷ h) ≡ bytesAt r fs ++ cancels touchView (machineAt r fs .table)) × Silent (after r (x ∷ h))
-after-a-cancel-nothing-until-an-opening-frame r x h fs f gs e v u k =
-    let s = since-cancel r x h fs f gs e v u k in
-    (s .own, s .silent)
+after-a-cancel-nothing-until-an-opening-frame = since-cancel
 
 -- ---- "FROM ANY OPENING FRAME ACCEPTED WHILE NO CONTACT IS ACTIVE, THE RECORDS AND THE CONTACT TABLE ARE THOSE OF A RESTED RECEIVER WITH THE
 -- SAME SETTINGS GIVEN THAT FRAME AND ALL THAT FOLLOWS, AS LONG AS NEITHER IS REFUSED FOR LACK OF ROOM"
@@ -117,7 +117,7 @@ after-a-cancel-nothing-until-an-opening-frame r x h fs f gs e v u k =
 -- r is the receiver after any history. Its next message x has the opening frame f, before which no contact is active, in either mode; the
 -- rested receiver gets y instead, which begins with f; then both get the same messages, each lent whatever room.
 pub from-an-opening-frame-as-if-rested : (h : List Sent) → OfBytes h → let r : Receiver = after fresh h in
-    (x y : Sent) → Bytes (x .message) → (fs : List (Frame Contact)) (f : Frame Contact) (gs : List (Frame Contact)) → Cut r x y fs f gs → opens f ≡ true → NoneActive (machineAt r fs .table)
+    (x y : Sent) → Bytes (x .message) → (fs : List (Frame Contact)) (f : Frame Contact) (gs : List (Frame Contact)) → Cut r x y fs f gs → opens touchView f ≡ true → NoneActive (machineAt r fs .table)
     → (more others : List Sent) → messagesOf more ≡ messagesOf others → Roomy r (x ∷ more) → Roomy (rested (r .settings)) (y ∷ others)
     → AsRested r x y fs more others
 from-an-opening-frame-as-if-rested h b = as-rested (after fresh h) (history-kept h b)

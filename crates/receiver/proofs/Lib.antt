@@ -8,12 +8,12 @@ pub mod Bound
 -- What is true of a receiver, of one message and of every history.
 pub mod Became
 pub mod Fitting
-pub mod Steadiness
+pub mod Lawful
+pub mod Streaming
 pub mod Invariants
-pub mod Quiet
+pub mod Demand
 pub mod Rested
 pub mod Cutting
-pub mod Paths
 mod Broken
 pub mod Refusing
 pub mod Records

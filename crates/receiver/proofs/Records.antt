@@ -29,7 +29,7 @@ use Rattle.receiver.specs.Receive.{rulesOf, machineOf, Effect, touched, 
 use Rattle.receiver.specs.History.{Sent, next, answerTo, wrote, writtenBy}
 use Rattle.receiver.proofs.Became.{Became, became, refused, settles, touches, dismisses}
 use Rattle.receiver.proofs.Bound.{no-message-writes-more}
-use Rattle.receiver.proofs.Invariants.{bytes-touched, machine-touched}
+use Rattle.receiver.proofs.Streaming.{bytes-touched, machine-touched}
 use Rattle.receiver.proofs.Refusing.{Tame, effect-tame}
 use Rattle.receiver.proofs.Weight.{verdict-long}
 use Rattle.contacts.specs.Touch.{touchView}

@@ -9,123 +9,71 @@ use borrow.Author.Tests.{ne-eqb}
 use lib.Dec.{leb}
 use lib.ListN.{length, drop, length-append}
 use Rattle.paper.specs.Refusals.{noRoom}
+use Rattle.paper.specs.declared.Milliseconds.{Milliseconds}
 use Rattle.slices.specs.Writing.{bytes, given}
 use Rattle.formats.specs.Format.{Got, got, bad}
 use Rattle.formats.proofs.Laws.{never}
 use Rattle.digits.specs.Digits.{Bytes}
-use Rattle.digits.proofs.Laws.{bytes-drop}
 use Rattle.fields.specs.Integers.{strict}
 use Rattle.messages.specs.Header.{headerBytes}
+use Rattle.messages.specs.declared.Ready.{Ready}
 use Rattle.house.specs.declared.Contact.{Contact}
-use Rattle.framing.proofs.Timed.{timed-cons, timed-append}
-use Rattle.framing.specs.Frame.{Frame, timedFrames}
+use Rattle.framing.specs.Frame.{Frame}
 use Rattle.touch.specs.Touch.{Touch, body}
-use Rattle.machine.specs.Rules.{Rules}
-use Rattle.machine.specs.Table.{Table, resting}
-use Rattle.machine.specs.Conforms.{conforms}
-use Rattle.machine.specs.Machine.{Machine, injected, cancelled, verdict, machineAfter, bytesFor, stepMachine, stepBytes, runMachine, runBytes}
-use Rattle.machine.proofs.Machine.{machine-append, bytes-append}
+use Rattle.stream.specs.Stream.{Stream, frames, opens, NoneActive}
+use Rattle.stream.specs.Stream as stream
+use Rattle.stream.proofs.Demand.{from-an-opening-frame-as-if-rested}
 use Rattle.receiver.specs.declared.Receiver.{Receiver}
 use Rattle.receiver.specs.declared.Answer.{Answer}
-use Rattle.receiver.specs.Receive.{off, mark, rulesOf, machineOf, Effect, judged, touched, effect, refusal, answerOf, receiverAfter, answerAfter, untimed, begunBy, timeBy}
-use Rattle.receiver.specs.History.{Sent, next, answerTo, wrote, after, written, outcomes, messagesOf, Roomy, touchIn, opens, rested, machineAt, bytesAt, Cut, AsRested, NoneActive}
+use Rattle.receiver.specs.Receive.{off, mark, Effect, judged, touched, effect, refusal, answerOf, receiverAfter, answerAfter, untimed, begunBy, timeBy}
+use Rattle.receiver.specs.History.{Sent, next, answerTo, wrote, after, written, outcomes, messagesOf, Roomy, touchIn, rested, touchProfile, streamOf, machineAt, bytesAt, Cut, AsRested}
 use Rattle.receiver.proofs.Became.{Does, does, fails, settles, touches, dismisses}
-use Rattle.receiver.proofs.Fitting.{All, FrameFits, body-fits, frames-fit}
-use Rattle.receiver.proofs.Steadiness.{none-active-rests, run-steady}
-use Rattle.receiver.proofs.Invariants.{Kept, ready-one, bytes-touched}
-use Rattle.receiver.proofs.Quiet.{frameFor, opens-same}
+use Rattle.receiver.proofs.Lawful.{touch-law}
+use Rattle.receiver.proofs.Streaming.{bytes-touched, stream-touched}
+use Rattle.receiver.proofs.Invariants.{Kept, message-fits, ready-one}
 use Rattle.contacts.specs.Touch.{touchView}
 
--- ---- an opening frame, in either mode
+-- ---- a receiver that frames leave is known from its stream
 
-module _ (rules : Rules Contact) (t : Table) (f : Frame Contact) (o : opens f ≡ true) where
-  abbrev inMode : Bool → Machine
-  inMode b = record { table = t; running = b }
+abbrev ofStream : ℕ → Stream Ready → Receiver
+ofStream ready s =
+    record {
+      ready = ready;
+      begun = mark (s .begun);
+      ignoring = mark (not (s .machine .running));
+      settings = s .settings;
+      states = s .machine .table .states;
+      xs = s .machine .table .xs;
+      ys = s .machine .table .ys;
+    }
 
-  open-machine : (b : Bool) → stepMachine touchView rules (inMode b) f ≡ stepMachine touchView rules (inMode true) f
-  unfolding stepMachine verdict
-  open-machine true = refl
-  open-machine false = rw o (go (conforms touchView rules t (f .contacts)))
-    where
-      go : (c : Bool) → machineAfter touchView (cond c injected cancelled) (rules .next) (inMode false) (f .contacts) ≡ machineAfter touchView (cond c injected cancelled) (rules .next) (inMode true) (f .contacts)
-      go true = refl
-      go false = refl
-
-  open-bytes : (b : Bool) → stepBytes touchView rules (inMode b) f ≡ stepBytes touchView rules (inMode true) f
-  unfolding stepBytes verdict
-  open-bytes true = refl
-  open-bytes false = rw o (go (conforms touchView rules t (f .contacts)))
-    where
-      go : (c : Bool) → bytesFor touchView (cond c injected cancelled) (inMode false) f ≡ bytesFor touchView (cond c injected cancelled) (inMode true) f
-      go true = refl
-      go false = refl
-
--- ---- the frames of a message from an opening one on, with no contact active before it
-
-rested-frames : (r : Receiver) (fs : List (Frame Contact)) → timedFrames (untimed (rested (r .settings))) fs ≡ timedFrames (untimed r) fs
-unfolding rested
-rested-frames r fs = refl
+mark-off : (b : Bool) → mark (not b) ≡ mark (not (off (mark (not b))))
+mark-off true = refl
+mark-off false = refl
 
 begun-after : (begun : ℕ) (fs : List (Frame Contact)) (f : Frame Contact) (gs : List (Frame Contact)) → begunBy begun (length (fs ++ (f ∷ gs))) ≡ 1
 begun-after begun fs f gs = rw (ne-eqb (length (fs ++ (f ∷ gs))) 0 (λ e. omega (arith, length-append fs (f ∷ gs))))
 
-module _ (r : Receiver) (fs : List (Frame Contact)) (f : Frame Contact) (gs : List (Frame Contact)) (o : opens f ≡ true) (z : machineAt r fs .table ≡ resting) where
-  abbrev running : Machine
-  running = record { table = resting; running = true }
+from-stream : (r : Receiver) (time : Milliseconds) (fs : List (Frame Contact)) (f : Frame Contact) (gs : List (Frame Contact))
+    → let q : Receiver = touched r (record { time = time; frames = fs ++ (f ∷ gs) }) .receiver in q ≡ ofStream (r .ready) (streamOf q)
+unfolding touched
+from-stream r time fs f gs =
+    let a = machineAt r (fs ++ (f ∷ gs)) in
+    let b = begun-after (r .begun) fs f gs in
+    let c : begunBy (r .begun) (length (fs ++ (f ∷ gs))) ≡ mark (not (off (begunBy (r .begun) (length (fs ++ (f ∷ gs)))))) = rw b in
+    λ i. record {
+      ready = r .ready;
+      begun = c i;
+      ignoring = mark-off (a .running) i;
+      settings = r .settings;
+      states = a .table .states;
+      xs = a .table .xs;
+      ys = a .table .ys;
+    }
 
-  from-machine : (n : Machine) → n .table ≡ resting → runMachine touchView (rulesOf r) n (timedFrames (untimed r) (f ∷ gs)) ≡ runMachine touchView (rulesOf r) running (timedFrames (untimed r) (f ∷ gs))
-  unfolding runMachine
-  from-machine n e =
-      let p : n ≡ record { table = resting; running = n .running } = λ i. record { table = e i; running = n .running } in
-      let s = ap (λ (k : Machine). stepMachine touchView (rulesOf r) k (frameFor r f)) p ∙ open-machine (rulesOf r) resting (frameFor r f) (opens-same r f ∙ o) (n .running) in
-      rw (timed-cons (untimed r) f gs) (ap (λ (k : Machine). runMachine touchView (rulesOf r) k (timedFrames (untimed r) gs)) s)
-
-  from-bytes : (n : Machine) → n .table ≡ resting → runBytes touchView (rulesOf r) n (timedFrames (untimed r) (f ∷ gs)) ≡ runBytes touchView (rulesOf r) running (timedFrames (untimed r) (f ∷ gs))
-  unfolding runBytes
-  from-bytes n e =
-      let p : n ≡ record { table = resting; running = n .running } = λ i. record { table = e i; running = n .running } in
-      let s = ap (λ (k : Machine). stepMachine touchView (rulesOf r) k (frameFor r f)) p ∙ open-machine (rulesOf r) resting (frameFor r f) (opens-same r f ∙ o) (n .running) in
-      let b = ap (λ (k : Machine). stepBytes touchView (rulesOf r) k (frameFor r f)) p ∙ open-bytes (rulesOf r) resting (frameFor r f) (opens-same r f ∙ o) (n .running) in
-      rw (timed-cons (untimed r) f gs) (λ i. b i ++ runBytes touchView (rulesOf r) (s i) (timedFrames (untimed r) gs))
-
-  -- what the rested receiver's machine and bytes are
-  rested-machine : machineAt (rested (r .settings)) (f ∷ gs) ≡ runMachine touchView (rulesOf r) running (timedFrames (untimed r) (f ∷ gs))
-  unfolding rested
-  rested-machine = refl
-
-  rested-bytes : bytesAt (rested (r .settings)) (f ∷ gs) ≡ runBytes touchView (rulesOf r) running (timedFrames (untimed r) (f ∷ gs))
-  unfolding rested
-  rested-bytes = refl
-
-  whole-machine : machineAt r (fs ++ (f ∷ gs)) ≡ machineAt (rested (r .settings)) (f ∷ gs)
-  whole-machine =
-      ap (runMachine touchView (rulesOf r) (machineOf r)) (timed-append (untimed r) fs (f ∷ gs))
-      ∙ (machine-append touchView (rulesOf r) (machineOf r) (timedFrames (untimed r) fs) (timedFrames (untimed r) (f ∷ gs))
-      ∙ (from-machine (machineAt r fs) z ∙ sym rested-machine))
-
-  module _ (one : r .ready ≡ 1) (m n : Touch) (em : m .frames ≡ fs ++ (f ∷ gs)) (en : n .frames ≡ f ∷ gs) where
-    pub rested-receiver : touched r m .receiver ≡ touched (rested (r .settings)) n .receiver
-    unfolding touched rested
-    rested-receiver =
-        let k : machineAt r (m .frames) ≡ machineAt (rested (r .settings)) (n .frames) = rw (em, en) whole-machine in
-        let b = ap (λ (l : List (Frame Contact)). begunBy (r .begun) (length l)) em ∙ (begun-after (r .begun) fs f gs ∙ sym (ap (λ (l : List (Frame Contact)). begunBy 1 (length l)) en ∙ begun-after 1 [] f gs)) in
-        λ i. record {
-          ready = one i;
-          begun = b i;
-          ignoring = mark (not (k i .running));
-          settings = r .settings;
-          states = k i .table .states;
-          xs = k i .table .xs;
-          ys = k i .table .ys;
-        }
-
-    pub rested-written : touched r m .bytes ≡ bytesAt r fs ++ touched (rested (r .settings)) n .bytes
-    rested-written =
-        let b : touched (rested (r .settings)) n .bytes ≡ runBytes touchView (rulesOf r) running (timedFrames (untimed r) (f ∷ gs)) = bytes-touched (rested (r .settings)) n ∙ (rw en rested-bytes) in
-        bytes-touched r m
-        ∙ (rw em (ap (runBytes touchView (rulesOf r) (machineOf r)) (timed-append (untimed r) fs (f ∷ gs)))
-        ∙ (bytes-append touchView (rulesOf r) (machineOf r) (timedFrames (untimed r) fs) (timedFrames (untimed r) (f ∷ gs))
-        ∙ ap (λ (s : List ℕ). bytesAt r fs ++ s) (from-bytes (machineAt r fs) z ∙ sym b)))
+rested-stream : (x : Ready) → streamOf (rested x) ≡ stream.rested x
+unfolding rested stream.rested
+rested-stream x = refl
 
 -- ---- a message that is not refused for lack of room
 
@@ -210,15 +158,11 @@ same-outcomes r (x ∷ h) (y ∷ k) e a b =
 
 -- ---- the two receivers
 
-all-front : {A : Type 0} (P : A → Type 0) (l more : List A) → All P (l ++ more) → All P l
-all-front P [] more h = tt
-all-front P (a ∷ l) more h = (h .0, all-front P l more (h .1))
-
 time-same : (r : Receiver) (m n : Touch) → m .time ≡ n .time → touched r m .time ≡ touched (rested (r .settings)) n .time
 unfolding touched rested
 time-same r m n e = ap (timeBy (untimed r)) e
 
-module _ (r : Receiver) (k : Kept r) (x y : Sent) (b : Bytes (x .message)) (fs : List (Frame Contact)) (f : Frame Contact) (gs : List (Frame Contact)) (c : Cut r x y fs f gs) (o : opens f ≡ true)
+module _ (r : Receiver) (k : Kept r) (x y : Sent) (b : Bytes (x .message)) (fs : List (Frame Contact)) (f : Frame Contact) (gs : List (Frame Contact)) (c : Cut r x y fs f gs) (o : opens touchView f ≡ true)
     (idle : NoneActive (machineAt r fs .table)) where
   abbrev whole : Touch
   whole = record { time = c .time; frames = fs ++ (f ∷ gs) }
@@ -226,23 +170,38 @@ module _ (r : Receiver) (k : Kept r) (x y : Sent) (b : Bytes (x .message)) (fs :
   abbrev part : Touch
   part = record { time = c .time; frames = f ∷ gs }
 
-  -- no contact active is the resting table
-  at-rest : machineAt r fs .table ≡ resting
-  at-rest =
-      let all = body-fits (judged r) (drop headerBytes (x .message)) whole [] (bytes-drop headerBytes (x .message) b) (touch-body r (x .message) whole [] (c .whole) .1) in
-      let s = run-steady (r .settings .most) (machineOf r) (timedFrames (untimed r) fs) (frames-fit (untimed r) fs (all-front FrameFits fs (f ∷ gs) all)) (k .machine) in
-      none-active-rests (machineAt r fs .table) (s .table) idle
+  -- the two streams
+  from-here : stream.AsRested touchProfile (streamOf r) fs f gs []
+  from-here =
+      let fits = message-fits r (x .message) whole [] b (touch-body r (x .message) whole [] (c .whole) .1) in
+      from-an-opening-frame-as-if-rested touch-law (streamOf r) (k .stream) fs f gs fits o idle []
+
+  streams-same : streamOf (touched r whole .receiver) ≡ streamOf (touched (rested (r .settings)) part .receiver)
+  streams-same =
+      stream-touched r whole
+      ∙ (from-here .stream
+      ∙ sym (stream-touched (rested (r .settings)) part ∙ ap (λ (s : Stream Ready). stream.next touchProfile s (frames (f ∷ gs))) (rested-stream (r .settings))))
+
+  receivers-same : touched r whole .receiver ≡ touched (rested (r .settings)) part .receiver
+  unfolding rested
+  receivers-same =
+      let one = ready-one r k (touch-body r (x .message) whole [] (c .whole) .0) in
+      from-stream r (c .time) fs f gs ∙ ((λ i. ofStream (one i) (streams-same i)) ∙ sym (from-stream (rested (r .settings)) (c .time) [] f gs))
+
+  bytes-same : touched r whole .bytes ≡ bytesAt r fs ++ touched (rested (r .settings)) part .bytes
+  unfolding stream.wrote
+  bytes-same =
+      let q = bytes-touched (rested (r .settings)) part ∙ ap (λ (s : Stream Ready). stream.bytesAt touchProfile s (f ∷ gs)) (rested-stream (r .settings)) in
+      bytes-touched r whole ∙ (from-here .bytes ∙ ap (λ (l : List ℕ). bytesAt r fs ++ l) (sym q))
 
   pub as-rested : (more others : List Sent) → messagesOf more ≡ messagesOf others → Roomy r (x ∷ more) → Roomy (rested (r .settings)) (y ∷ others) → AsRested r x y fs more others
   unfolding Roomy written
   as-rested more others same hr hq =
       let q = rested (r .settings) in
-      let z = at-rest in
-      let one = ready-one r k (touch-body r (x .message) whole [] (c .whole) .0) in
       let tr = taken r x (touched r whole) [] (touch-effect r (x .message) whole [] (c .whole)) (hr .0) in
       let tq = taken q y (touched q part) [] (touch-effect q (y .message) part [] (c .part)) (hq .0) in
-      let n : next r x ≡ next q y = tr .next ∙ (rested-receiver r fs f gs o z one whole part refl refl ∙ sym (tq .next)) in
-      let w : wrote r x ≡ bytesAt r fs ++ wrote q y = tr .wrote ∙ (rested-written r fs f gs o z one whole part refl refl ∙ ap (λ (s : List ℕ). bytesAt r fs ++ s) (sym (tq .wrote))) in
+      let n : next r x ≡ next q y = tr .next ∙ (receivers-same ∙ sym (tq .next)) in
+      let w : wrote r x ≡ bytesAt r fs ++ wrote q y = tr .wrote ∙ (bytes-same ∙ ap (λ (s : List ℕ). bytesAt r fs ++ s) (sym (tq .wrote))) in
       let hs : Roomy (next r x) others = rw n (hq .1) in
       let i = same-outcomes (next r x) more others same (hr .1) hs in
       let ws = i .written ∙ ap (λ (p : Receiver). written p others) n in

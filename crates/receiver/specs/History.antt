@@ -1,35 +1,36 @@
 -- Histories of one receiver, and the path of a contact through the records that they write.
-use Prim.Native.Nat.{ℕ, zero, suc, _+_, _/_, _≤_}
+use Prim.Native.Nat.{ℕ, _≤_}
 use mathlib.Core.Path.{_≡_}
-use mathlib.Core.Bool.{Bool, true, false, cond, not}
+use mathlib.Core.Bool.{true, false, cond, not}
 use mathlib.Core.List.{List, [], _∷_, _++_, map}
 use lib.Dec.{eqb}
-use lib.ListN.{length, drop}
 use Rattle.paper.specs.Refusals.{none, noRoom}
 use Rattle.paper.specs.declared.Milliseconds.{Milliseconds}
 use Rattle.digits.specs.Digits.{Bytes}
 use Rattle.slices.specs.Writing.{Draft, bytes, refuse, given}
 use Rattle.formats.specs.Format.{Got, got, bad, andThen}
 use Rattle.fields.specs.Integers.{strict}
-use Rattle.states.specs.Table.{out, illegal, next as nextState}
-use Rattle.house.specs.Fields.{recordBytes}
-use Rattle.house.specs.Layout.{touched as touchKind, recordOf}
+use Rattle.states.specs.Table.{next as nextState}
+use Rattle.house.specs.Layout.{recordOf}
 use Rattle.house.specs.declared.Point.{Point}
 use Rattle.house.specs.declared.Contact.{Contact}
 use Rattle.house.specs.declared.Record.{Record}
 use Rattle.house.specs.declared.Record.the-variants as Record
 use Rattle.messages.specs.Header.{headed, touch, writeMessage}
 use Rattle.messages.specs.declared.Ready.{Ready}
-use Rattle.framing.specs.Frame.{Frame, timedFrames}
+use Rattle.framing.specs.Frame.{Frame}
 use Rattle.touch.specs.Touch.{Touch, body}
 use Rattle.touch.specs.Touch as format
-use Rattle.machine.specs.Table.{Table, resting, stateAt}
-use Rattle.machine.specs.Conforms.{every, lifts, samePlace, placeIn}
-use Rattle.machine.specs.Machine.{Machine, opening, cancelled, verdict, runMachine, runBytes}
+use Rattle.machine.specs.Table.{Table, resting}
+use Rattle.machine.specs.Machine.{Machine}
 use Rattle.receiver.specs.declared.Receiver.{Receiver}
 use Rattle.receiver.specs.declared.Answer.{Answer}
-use Rattle.receiver.specs.Receive.{off, rulesOf, machineOf, withTable, judged, takes, effect, draftOf, refusal, receiverAfter, answerAfter, untimed}
-use Rattle.contacts.specs.Touch.{touchView}
+use Rattle.receiver.specs.Receive.{off, machineOf, withTable, judged, takes, effect, draftOf, refusal, receiverAfter, answerAfter, untimedBy}
+use Rattle.contacts.specs.Touch.{touchView, touchRules}
+use Rattle.stream.specs.Stream.{Profile, Stream, unopened}
+use Rattle.stream.specs.Stream as stream
+use Rattle.stream.specs.Path.{Seen, head, contact, refused, Path}
+use Rattle.stream.specs.Path as paths
 
 -- ---- "any history of messages to one receiver, refused ones among them"
 
@@ -109,28 +110,40 @@ framesOf (bad n) = []
 unfoldable pub framesTaken : Receiver → Sent → List (Frame Contact)
 framesTaken r x = cond (eqb (answerTo r x .refusal) none) (framesOf (touchIn r (x .message))) []
 
--- "The meaning of "opening" is the same in both modes."
-abbrev pub opens : Frame Contact → Bool
-opens f = opening touchView (f .contacts)
-
-unfoldable pub unopened : List (Frame Contact) → Bool
-unopened fs = every (λ f. not (opens f)) fs
-
 -- no opening frame is accepted
 unfoldable pub Unopened : Receiver → List Sent → Type 0
 Unopened r [] = Unit
-Unopened r (x ∷ h) = (unopened (framesTaken r x) ≡ true) × Unopened (next r x) h
+Unopened r (x ∷ h) = (unopened touchView (framesTaken r x) ≡ true) × Unopened (next r x) h
+
+-- ---- a receiver has one stream
+
+-- what it goes by: what the machine sees of a touch contact, document 01's rules with maxTouchContacts, and ready flag 2
+abbrev pub touchProfile : Profile Ready Contact
+touchProfile = record { view = touchView; rules = λ s. touchRules (s .most); untimed = λ s. untimedBy (s .flags) }
+
+abbrev pub streamOf : Receiver → Stream Ready
+streamOf r = record { settings = r .settings; machine = machineOf r; begun = not (off (r .begun)) }
+
+-- the contacts and the mode after the first frames of a message, and what those write
+abbrev pub machineAt : Receiver → List (Frame Contact) → Machine
+machineAt r fs = stream.machineAt touchProfile (streamOf r) fs
+
+abbrev pub bytesAt : Receiver → List (Frame Contact) → List ℕ
+bytesAt r fs = stream.bytesAt touchProfile (streamOf r) fs
+
+-- the frame f is cancelled, after the frames fs of its message
+abbrev pub CancelledAfter : Receiver → List (Frame Contact) → Frame Contact → Type 0
+CancelledAfter r fs f = stream.CancelledAfter touchProfile (streamOf r) fs f
+
+-- what a cancelled frame leaves: ignoring, every contact out of range
+abbrev pub Silent : Receiver → Type 0
+Silent r = stream.Silent (streamOf r)
+
+-- ---- the rested receiver
 
 -- "A rested receiver has accepted event 2, is past its first frame, is running, and has no active contact."
 unfoldable pub rested : Ready → Receiver
 rested s = withTable (record { ready = 1; begun = 1; ignoring = 0; settings = s; states = []; xs = []; ys = [] }) resting
-
--- the contacts and the mode after the first frames of a message, and what those write
-abbrev pub machineAt : Receiver → List (Frame Contact) → Machine
-machineAt r fs = runMachine touchView (rulesOf r) (machineOf r) (timedFrames (untimed r) fs)
-
-abbrev pub bytesAt : Receiver → List (Frame Contact) → List ℕ
-bytesAt r fs = runBytes touchView (rulesOf r) (machineOf r) (timedFrames (untimed r) fs)
 
 -- the bytes of a touch message
 abbrev pub messageOf : Touch → List ℕ
@@ -152,56 +165,18 @@ pub record AsRested (r : Receiver) (x y : Sent) (fs : List (Frame Contact)) (mor
   pub outcomes : outcomes (next r x) more ≡ outcomes (next (rested (r .settings)) y) others
   pub written : written r (x ∷ more) ≡ bytesAt r fs ++ written (rested (r .settings)) (y ∷ others)
 
--- the frame f is cancelled, after the frames fs of its message
-abbrev pub CancelledAfter : Receiver → List (Frame Contact) → Frame Contact → Type 0
-CancelledAfter r fs f = verdict touchView (rulesOf r) (machineAt r fs) (f .contacts) ≡ cancelled
-
--- no contact is active
-abbrev pub NoneActive : Table → Type 0
-NoneActive t = (id : ℕ) → stateAt t id ≡ out
-
--- what a cancelled frame leaves: ignoring, every contact out of range
-pub record Silent (r : Receiver) : Type 0 where
-  pub ignoring : off (r .ignoring) ≡ false
-  pub resting : tableOf r ≡ resting
-
 -- ---- "each contact's records are a legal path through the three states from out of range"
 
--- n records, each of 21 bytes
-unfoldable pub recordsFrom : ℕ → List ℕ → List Record
-recordsFrom zero l = []
-recordsFrom (suc n) l = recordOf l ∷ recordsFrom n (drop recordBytes l)
+-- as many records as bytes hold; a last one that is not whole is read as refused
+abbrev pub recordsIn : List ℕ → List Record
+recordsIn l = paths.recordsIn recordOf l
 
--- as many as bytes hold; a last one that is not whole is read as refused
-unfoldable pub recordsIn : List ℕ → List Record
-recordsIn l = recordsFrom ((length l + 20) / recordBytes) l
+-- what a path asks of a record
+abbrev pub seenIn : Record → Seen
+seenIn (Record.Head h) = head
+seenIn (Record.Contact kind c) = contact kind (c .flags) (c .id) (c .place)
+seenIn (Record.Refused e) = refused
 
--- where a path has come: a state and a position; or it was none
-pub data Path : Type 0 where
-  at : ℕ → Point → Path
-  broken : Path
-
-abbrev pub andOn : Path → (ℕ → Point → Path) → Path
-andOn (at s p) f = f s p
-andOn broken f = broken
-
--- "With 0x0C, 0x04 and 0x24 the position must be the stored one"; "Kinds 2 and 3 carry the stored position"
-abbrev pub held : ℕ → ℕ → Bool
-held kind flags = cond (eqb kind touchKind) (lifts flags) true
-
-abbrev pub mayStep : ℕ → Contact → ℕ → Point → Bool
-mayStep kind c s p = cond (eqb (nextState (c .flags) s) illegal) false (cond (held kind (c .flags)) (samePlace (c .place) p) true)
-
--- "An injected contact's position is stored with its state. A contact out of range has position 0, 0."
-abbrev pub stepped : Contact → ℕ → Path
-stepped c s = at (nextState (c .flags) s) (placeIn (nextState (c .flags) s) (c .place))
-
--- one record: of another contact and of none it moves nothing
-unfoldable pub pathStep : ℕ → Record → ℕ → Point → Path
-pathStep id (Record.Head h) s p = at s p
-pathStep id (Record.Contact kind c) s p = cond (eqb (c .id) id) (cond (mayStep kind c s p) (stepped c s) broken) (at s p)
-pathStep id (Record.Refused e) s p = broken
-
-unfoldable pub path : ℕ → List Record → ℕ → Point → Path
-path id [] s p = at s p
-path id (x ∷ xs) s p = andOn (pathStep id x s p) (path id xs)
+-- the path of a contact through records, from a state and a position, by document 01's table
+abbrev pub path : ℕ → List Record → ℕ → Point → Path
+path id records s p = paths.path nextState seenIn id records s p

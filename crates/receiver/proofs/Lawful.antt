@@ -1,0 +1,107 @@
+-- Touch keeps what is asked of a profile: document 01's table, and house records.
+-- Assumes nothing.
+use Prim.Native.Nat.{ℕ, zero, suc, _+_, _*_, _≤_, _<_}
+use mathlib.Core.Path.{_≡_, refl, ap}
+use mathlib.Core.Bool.{Bool, true, false}
+use native.Mathlib.Omega.{arith}
+use borrow.Author.Tests.{ltb-true, ltb-false, leb-true, leb-false}
+use lib.Dec.{leb, ltb, lit<, leb→le}
+use lib.IntN.{pos}
+use lib.ListN.{getD}
+use Rattle.states.specs.Table.{table, placeOf, unlisted, from, out, hovering, engaged, next}
+use Rattle.states.proofs.Below.{below}
+use Rattle.states.proofs.Rule.{entries, rule, no-state, no-row}
+use Rattle.house.specs.Twos.{Holds}
+use Rattle.house.specs.Fits.{ContactFits}
+use Rattle.house.specs.Layout.{recordOf}
+use Rattle.house.specs.declared.Point.{Point}
+use Rattle.house.proofs.Round.{length-contact, record-of-head, record-of-contact}
+use Rattle.house.proofs.WellFormed.{never}
+use Rattle.machine.specs.Table.{contacts, active}
+use Rattle.machine.specs.Machine.{cancelFlags}
+use Rattle.contacts.specs.Touch.{bareContact}
+use Rattle.stream.specs.Asked.{TableLaw, Laws}
+use Rattle.receiver.specs.History.{touchProfile, seenIn}
+
+-- ---- the state table leads to one of three states, or to none
+
+-- out of range, hovering or engaged
+abbrev pub OneOfThree : ℕ → Type 0
+OneOfThree s = s ≤ engaged
+
+entries-small : (k : ℕ) → k < 24 → getD entries k 0 ≤ 3
+entries-small k h = leb→le _ _ (below 24 (λ k. leb (getD entries k 0) 3) tt k h)
+
+next-small : (f s : ℕ) → next f s ≤ 3
+unfolding next
+next-small f s = go (ltb (placeOf f table) 8) refl (leb s 2) refl
+  where
+    go : (a : Bool) → ltb (placeOf f table) 8 ≡ a → (b : Bool) → leb s 2 ≡ b → from s (getD table (placeOf f table) unlisted) ≤ 3
+    go false ha b hb = rw (no-row (placeOf f table) s (ltb-false _ _ ha)) (omega arith)
+    go true ha false hb = rw (no-state s (getD table (placeOf f table) unlisted) (leb-false _ _ hb)) (omega arith)
+    go true ha true hb =
+        let p = ltb-true _ _ ha in
+        let q = leb-true _ _ hb in
+        rw (← rule (placeOf f table) s p q) (entries-small (3 * placeOf f table + s) (omega arith))
+
+cancel-next : (s : ℕ) → OneOfThree s → active s ≡ true → next (cancelFlags s) s ≡ out
+unfolding next placeOf from
+cancel-next zero h a = never a refl
+cancel-next (suc zero) h a = refl
+cancel-next (suc (suc zero)) h a = refl
+cancel-next (suc (suc (suc n))) h a = absurd (omega arith)
+
+dismiss-next : next 0x02 hovering ≡ out
+unfolding next placeOf from
+dismiss-next = refl
+
+touch-table : TableLaw next OneOfThree
+touch-table =
+    record {
+      start = omega arith;
+      step = λ flags s h n. omega (arith, next-small flags s, n);
+      cancel = cancel-next;
+      dismiss = λ h. dismiss-next;
+    }
+
+-- ---- records
+
+pub record PlaceFits (p : Point) : Type 0 where
+  pub x : Holds 30 (p .x)
+  pub y : Holds 30 (p .y)
+
+bare-fits : (flags id : ℕ) (p : Point) → flags < 64 → id < contacts → PlaceFits p → ContactFits (bareContact flags id p)
+bare-fits flags id p hf hi hp =
+    let zero : Holds 15 (pos 0) = record { holds = lit< tt } in
+    record {
+      flags = hf;
+      present = lit< tt;
+      id = hi;
+      x = hp .x;
+      y = hp .y;
+      left = zero;
+      top = zero;
+      right = zero;
+      bottom = zero;
+      orientation = lit< tt;
+      pressure = lit< tt;
+    }
+
+pub touch-law : Laws touchProfile next recordOf seenIn OneOfThree ContactFits PlaceFits
+touch-law =
+    record {
+      one-table = λ x. refl;
+      steps = touch-table;
+      records = record {
+        long = length-contact;
+        head-seen = λ h rest f. ap seenIn (record-of-head h rest f);
+        contact-seen = λ kind c rest low high f. ap seenIn (record-of-contact kind c rest low high f);
+        id-fits = λ c f. f .id;
+        place-fits = λ c f. record { x = f .x; y = f .y };
+        origin-fits = record { x = record { holds = lit< tt }; y = record { holds = lit< tt } };
+        bare-fits = bare-fits;
+        bare-flags = λ flags id p. refl;
+        bare-id = λ flags id p. refl;
+        bare-place = λ flags id p. refl;
+      };
+    }

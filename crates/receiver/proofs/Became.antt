@@ -7,7 +7,6 @@ use mathlib.Core.List.{List, [], _∷_}
 use lib.Dec.{eqb, leb}
 use lib.ListN.{length, drop}
 use borrow.Author.Tests.{eqb-true}
-use native.Mathlib.Omega.{arith}
 use Rattle.paper.specs.Refusals.{none, noRoom, trailing}
 use Rattle.slices.specs.Writing.{bytes, refuse, given}
 use Rattle.formats.specs.Format.{Got, got, bad, andThen, whole, byte}
@@ -23,9 +22,6 @@ use Rattle.receiver.specs.declared.Receiver.{Receiver}
 use Rattle.receiver.specs.declared.Answer.{Answer}
 use Rattle.receiver.specs.Receive.{off, judged, takes, Effect, settled, touched, dismissedBy, bodyEffect, effect, draftOf, refusal, answerOf, receiverAfter, answerAfter}
 use Rattle.receiver.specs.History.{Sent, next, answerTo, wrote, writtenBy, touchIn, framesOf, framesTaken}
-
-pub true-not-false : {P : Type 0} → _≡_ {A = Bool} false true → P
-true-not-false h = absurd (let z : _≡_ {A = ℕ} 0 1 = cc in omega arith)
 
 -- ---- before its room is asked: what it does, and the touch message that it is
 

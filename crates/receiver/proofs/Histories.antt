@@ -1,7 +1,7 @@
 -- The sentences on every history of a receiver: any messages, lent any room, refused ones among them.
 -- Assumes nothing.
 use Prim.Native.Nat.{ℕ, _+_, _≤_, _<_}
-use mathlib.Core.Path.{_≡_, _∙_}
+use mathlib.Core.Path.{_≡_, refl, sym, ap, subst, _∙_}
 use mathlib.Core.Bool.{true, false}
 use mathlib.Core.List.{List, [], _∷_, _++_}
 use lib.ListN.{length}
@@ -10,6 +10,7 @@ use Rattle.paper.specs.declared.Milliseconds.{Milliseconds}
 use Rattle.digits.specs.Digits.{Bytes}
 use Rattle.slices.specs.Writing.{laid, given}
 use Rattle.formats.specs.Format.{got}
+use Rattle.messages.specs.declared.Ready.{Ready}
 use Rattle.states.specs.Table.{out, engaged}
 use Rattle.house.specs.declared.Contact.{Contact}
 use Rattle.framing.specs.Frame.{Frame}
@@ -18,16 +19,20 @@ use Rattle.machine.specs.Table.{contacts, stateAt, placeAt, origin, countActive
 use Rattle.machine.specs.Machine.{Machine, cancelled, verdict, cancels, stepMachine, runMachine, runBytes}
 use Rattle.machine.proofs.Table.{Whole, resting-state}
 use Rattle.machine.proofs.Machine.{cancelled-machine}
-use Rattle.stream.specs.Stream.{opens, unopened, NoneActive}
+use Rattle.stream.specs.Stream.{Stream, opens, unopened, NoneActive}
+use Rattle.stream.specs.Stream as stream
 use Rattle.stream.specs.Path.{at}
 use Rattle.stream.proofs.Steadiness.{none-active-rests}
 use Rattle.stream.proofs.Quiet.{quiet-bytes, quiet-machine, cancel-bytes, cancel-machine}
+use Rattle.stream.proofs.Demand.{a-silent-stream-writes-nothing-until-an-opening-frame}
+use Rattle.stream.proofs.Demand as demand
 use Rattle.receiver.specs.Receive.{off, fresh, effect, draftOf, Receives}
 use Rattle.receiver.specs.declared.Receiver.{Receiver}
 use Rattle.receiver.specs.declared.Answer.{Answer}
-use Rattle.receiver.specs.History.{Sent, OfBytes, messagesOf, next, answerTo, wrote, after, written, Roomy, tableOf, touchIn, framesTaken, Unopened, rested, machineAt, bytesAt, messageOf, Cut, AsRested, CancelledAfter, Silent, Unchanged, recordsIn, path}
-use Rattle.receiver.proofs.Invariants.{history-kept, answer-counts}
-use Rattle.receiver.proofs.Demand.{history-path, history-quiet, since-cancel}
+use Rattle.receiver.specs.History.{Sent, OfBytes, messagesOf, next, answerTo, wrote, after, written, Roomy, tableOf, touchIn, framesTaken, Unopened, rested, machineAt, bytesAt, messageOf, Cut, AsRested, CancelledAfter, Silent, Unchanged, recordsIn, path, touchProfile, streamOf}
+use Rattle.receiver.proofs.Lawful.{touch-law}
+use Rattle.receiver.proofs.Streaming.{givenBy, givens, given-frames, stream-after, stream-written, givens-unopened}
+use Rattle.receiver.proofs.Invariants.{fresh-kept, history-kept, givens-proper, answer-counts}
 use Rattle.receiver.proofs.Rested.{as-rested}
 use Rattle.receiver.proofs.Cutting.{rest-of-message}
 use Rattle.receiver.proofs.Refusing.{left-laid, refusal-changes-nothing, refused-as-none}
@@ -72,13 +77,20 @@ counts-add-up-to-frame-count = answer-counts
 pub at-most-maxTouchContacts-active : (h : List Sent) → OfBytes h → countActive (after fresh h .states) ≤ after fresh h .settings .most
 at-most-maxTouchContacts-active h b = history-kept h b .stream .few
 
+fresh-table : tableOf fresh ≡ resting
+unfolding fresh
+fresh-table = refl
+
 -- ---- "EACH CONTACT'S RECORDS ARE A LEGAL PATH THROUGH THE THREE STATES FROM OUT OF RANGE"
 
 -- The records of each id in all that was written, from out of range at 0, 0: each is legal where the one before it led, at the stored position
 -- where it has to be; and the path ends where the receiver has that contact.
 pub each-contact's-records-are-a-legal-path : (id : ℕ) → id < contacts → (h : List Sent) → OfBytes h
     → path id (recordsIn (written fresh h)) out origin ≡ at (stateAt (tableOf (after fresh h)) id) (placeAt (tableOf (after fresh h)) id)
-each-contact's-records-are-a-legal-path = history-path
+each-contact's-records-are-a-legal-path id l h b =
+    ap (λ (s : List ℕ). path id (recordsIn s) out origin) (stream-written fresh h)
+    ∙ (demand.each-contact's-records-are-a-legal-path touch-law id l (streamOf fresh) (givens fresh h) fresh-table (givens-proper fresh h b fresh-kept)
+    ∙ ap (λ (s : Stream Ready). at (stateAt (s .machine .table) id) (placeAt (s .machine .table) id)) (sym (stream-after fresh h)))
 
 -- ---- "AFTER A CANCEL'S OWN RECORDS NOTHING IS WRITTEN UNTIL AN OPENING FRAME"
 
@@ -102,14 +114,20 @@ after-a-cancelled-frame-nothing-until-an-opening-one rules m fs f gs hs v u = (c
 -- Over messages: a receiver that ignores and has no active contact writes nothing, dismissals included, and stays so, as long as no opening
 -- frame is accepted.
 pub a-silent-receiver-writes-nothing-until-an-opening-frame : (r : Receiver) (h : List Sent) → Silent r → Unopened r h → (written r h ≡ []) × Silent (after r h)
-a-silent-receiver-writes-nothing-until-an-opening-frame = history-quiet
+a-silent-receiver-writes-nothing-until-an-opening-frame r h k u =
+    let q = a-silent-stream-writes-nothing-until-an-opening-frame touchProfile (streamOf r) (givens r h) k (givens-unopened r h u) in
+    (stream-written r h ∙ q .0, subst stream.Silent (sym (stream-after r h)) (q .1))
 
 -- Both: of an accepted message x with the frames fs, f, gs, where f is cancelled and none of gs opens, and of all messages after it, as long as
 -- no opening frame is accepted, nothing is written but the records of fs and the cancel's own.
 pub after-a-cancel-nothing-until-an-opening-frame : (r : Receiver) (x : Sent) (h : List Sent) (fs : List (Frame Contact)) (f : Frame Contact) (gs : List (Frame Contact))
     → framesTaken r x ≡ fs ++ (f ∷ gs) → CancelledAfter r fs f → unopened touchView gs ≡ true → Unopened (next r x) h
     → (written r (x ∷ h) ≡ bytesAt r fs ++ cancels touchView (machineAt r fs .table)) × Silent (after r (x ∷ h))
-after-a-cancel-nothing-until-an-opening-frame = since-cancel
+unfolding givens
+after-a-cancel-nothing-until-an-opening-frame r x h fs f gs e v u k =
+    let q =
+    demand.after-a-cancel-nothing-until-an-opening-frame touchProfile (streamOf r) (givenBy r x) (givens (next r x) h) fs f gs (given-frames r x ∙ e) v u (givens-unopened (next r x) h k) in
+    (stream-written r (x ∷ h) ∙ q .0, subst stream.Silent (sym (stream-after r (x ∷ h))) (q .1))
 
 -- ---- "FROM ANY OPENING FRAME ACCEPTED WHILE NO CONTACT IS ACTIVE, THE RECORDS AND THE CONTACT TABLE ARE THOSE OF A RESTED RECEIVER WITH THE
 -- SAME SETTINGS GIVEN THAT FRAME AND ALL THAT FOLLOWS, AS LONG AS NEITHER IS REFUSED FOR LACK OF ROOM"

@@ -32,7 +32,7 @@ use Rattle.receiver.specs.History.{Sent, OfBytes, next, answerTo, after,
 use Rattle.receiver.proofs.Became.{Became, became, refused, settles, touches, dismisses}
 use Rattle.receiver.proofs.Fitting.{body-fits}
 use Rattle.receiver.proofs.Lawful.{OneOfThree, PlaceFits, touch-law}
-use Rattle.receiver.proofs.Streaming.{givenBy, given, givens, stream-next}
+use Rattle.receiver.proofs.Streaming.{fromBecame, givenBy, givens, stream-next}
 
 -- ---- what every message keeps
 
@@ -54,7 +54,7 @@ pub message-fits : (r : Receiver) (l : List ℕ) (m : Touch) (t : List ℕ) → 
 message-fits r l m t hl e = body-fits (judged r) (drop headerBytes l) m t (bytes-drop headerBytes l hl) e
 
 -- a message asks of the stream nothing but what is proper
-became-proper : (r : Receiver) (l : List ℕ) {q : Receiver} {s : List ℕ} {a : Answer} {fs : List (Frame Contact)} → Bytes l → Kept r → (b : Became r l q s a fs) → Proper ContactFits (streamOf r) (givenBy b)
+became-proper : (r : Receiver) (l : List ℕ) {q : Receiver} {s : List ℕ} {a : Answer} {fs : List (Frame Contact)} → Bytes l → Kept r → (b : Became r l q s a fs) → Proper ContactFits (streamOf r) (fromBecame b)
 became-proper r l hl k (refused n) = tt
 became-proper r l hl k (settles s o) = k .unready o
 became-proper r l hl k (touches m t o e) = message-fits r l m t hl e
@@ -78,7 +78,7 @@ pub next-kept : (r : Receiver) (x : Sent) → Bytes (x .message) → Kept r → 
 next-kept r x hl k =
     let p = became-proper r (x .message) hl k (became r x) in
     record {
-      stream = subst StreamKept (sym (stream-next r x)) (stream-kept touch-law (streamOf r) (given r x) p (k .stream));
+      stream = subst StreamKept (sym (stream-next r x)) (stream-kept touch-law (streamOf r) (givenBy r x) p (k .stream));
       ready = became-ready r (x .message) k (became r x);
       unready = became-unready r (x .message) k (became r x);
     }

@@ -11,7 +11,6 @@ pub mod Fitting
 pub mod Lawful
 pub mod Streaming
 pub mod Invariants
-pub mod Demand
 pub mod Rested
 pub mod Cutting
 mod Broken

@@ -47,51 +47,51 @@ stream-touched r m = λ i. record { settings = r .settings; machine = machine-to
 -- ---- one message
 
 -- what it is to the stream
-abbrev pub givenBy : {r : Receiver} {l : List ℕ} {q : Receiver} {s : List ℕ} {a : Answer} {fs : List (Frame Contact)} → Became r l q s a fs → Given Ready Contact
-givenBy (refused n) = nothing
-givenBy (settles s o) = settings s
-givenBy (touches m t o e) = frames (m .frames)
-givenBy (dismisses id t o e) = dismissal id
+abbrev pub fromBecame : {r : Receiver} {l : List ℕ} {q : Receiver} {s : List ℕ} {a : Answer} {fs : List (Frame Contact)} → Became r l q s a fs → Given Ready Contact
+fromBecame (refused n) = nothing
+fromBecame (settles s o) = settings s
+fromBecame (touches m t o e) = frames (m .frames)
+fromBecame (dismisses id t o e) = dismissal id
 
 module _ (r : Receiver) (l : List ℕ) where
-  became-stream : {q : Receiver} {s : List ℕ} {a : Answer} {fs : List (Frame Contact)} (b : Became r l q s a fs) → streamOf q ≡ stream.next touchProfile (streamOf r) (givenBy b)
+  became-stream : {q : Receiver} {s : List ℕ} {a : Answer} {fs : List (Frame Contact)} (b : Became r l q s a fs) → streamOf q ≡ stream.next touchProfile (streamOf r) (fromBecame b)
   unfolding stream.next
   became-stream (refused n) = refl
   became-stream (settles s o) = refl
   became-stream (touches m t o e) = stream-touched r m
   became-stream (dismisses id t o e) = refl
 
-  became-bytes : {q : Receiver} {s : List ℕ} {a : Answer} {fs : List (Frame Contact)} (b : Became r l q s a fs) → s ≡ stream.wrote touchProfile (streamOf r) (givenBy b)
+  became-bytes : {q : Receiver} {s : List ℕ} {a : Answer} {fs : List (Frame Contact)} (b : Became r l q s a fs) → s ≡ stream.wrote touchProfile (streamOf r) (fromBecame b)
   unfolding stream.wrote
   became-bytes (refused n) = refl
   became-bytes (settles s o) = refl
   became-bytes (touches m t o e) = bytes-touched r m
   became-bytes (dismisses id t o e) = refl
 
-  became-frames : {q : Receiver} {s : List ℕ} {a : Answer} {fs : List (Frame Contact)} (b : Became r l q s a fs) → framesIn (givenBy b) ≡ fs
+  became-frames : {q : Receiver} {s : List ℕ} {a : Answer} {fs : List (Frame Contact)} (b : Became r l q s a fs) → framesIn (fromBecame b) ≡ fs
   became-frames (refused n) = refl
   became-frames (settles s o) = refl
   became-frames (touches m t o e) = refl
   became-frames (dismisses id t o e) = refl
 
 -- what a message is to the stream, as the receiver is
-abbrev pub given : Receiver → Sent → Given Ready Contact
-given r x = givenBy (became r x)
+abbrev pub givenBy : Receiver → Sent → Given Ready Contact
+givenBy r x = fromBecame (became r x)
 
-pub stream-next : (r : Receiver) (x : Sent) → streamOf (next r x) ≡ stream.next touchProfile (streamOf r) (given r x)
+pub stream-next : (r : Receiver) (x : Sent) → streamOf (next r x) ≡ stream.next touchProfile (streamOf r) (givenBy r x)
 stream-next r x = became-stream r (x .message) (became r x)
 
-stream-wrote : (r : Receiver) (x : Sent) → wrote r x ≡ stream.wrote touchProfile (streamOf r) (given r x)
+stream-wrote : (r : Receiver) (x : Sent) → wrote r x ≡ stream.wrote touchProfile (streamOf r) (givenBy r x)
 stream-wrote r x = became-bytes r (x .message) (became r x)
 
-pub given-frames : (r : Receiver) (x : Sent) → framesIn (given r x) ≡ framesTaken r x
+pub given-frames : (r : Receiver) (x : Sent) → framesIn (givenBy r x) ≡ framesTaken r x
 given-frames r x = became-frames r (x .message) (became r x)
 
 -- ---- a history
 
 unfoldable pub givens : Receiver → List Sent → List (Given Ready Contact)
 givens r [] = []
-givens r (x ∷ h) = given r x ∷ givens (next r x) h
+givens r (x ∷ h) = givenBy r x ∷ givens (next r x) h
 
 pub stream-after : (r : Receiver) (h : List Sent) → streamOf (after r h) ≡ stream.after touchProfile (streamOf r) (givens r h)
 unfolding after stream.after givens

@@ -1,23 +1,25 @@
 -- Demand 3, of every stream: of any profile, and of any messages, those that are nothing to it among them.
 -- Assumes nothing.
 use Prim.Native.Nat.{ℕ, _<_}
-use mathlib.Core.Path.{_≡_}
+use mathlib.Core.Path.{_≡_, _∙_}
 use mathlib.Core.Bool.{true}
 use mathlib.Core.List.{List, [], _∷_, _++_}
 use lib.ListN.{length}
 use Rattle.states.specs.Table.{out}
 use Rattle.house.specs.declared.Point.{Point}
-use Rattle.framing.specs.Frame.{Frame}
+use Rattle.framing.specs.Frame.{Frame, timedFrames}
+use Rattle.framing.proofs.Timed.{timed-length}
 use Rattle.machine.specs.Table.{Table, contacts, stateAt, placeAt, origin, resting}
 use Rattle.machine.specs.Machine.{cancels}
-use Rattle.machine.proofs.Machine.{total}
-use Rattle.stream.specs.Stream.{Profile, Stream, Given, framesIn, opens, unopened, Unopened, Silent, NoneActive, machineAt, bytesAt, countsAt, CancelledAfter, after, written, AsRested}
+use Rattle.machine.proofs.Machine.{total, counts-total}
+use Rattle.stream.specs.Stream.{Profile, Stream, Given, framesIn, opens, unopened, Unopened, Silent, NoneActive, machineAt, bytesAt, countsAt, CancelledAfter, next, after, written, AsRested}
 use Rattle.stream.specs.Path.{Seen, recordsIn, path, at}
 use Rattle.stream.specs.Asked.{Laws, All, FrameFits, AllProper}
-use Rattle.stream.proofs.Kept.{Kept, after-kept, counts-at}
+use Rattle.stream.proofs.Steadiness.{none-active-rests, resting-steady}
+use Rattle.stream.proofs.Kept.{Kept, all-front, frames-kept, next-kept}
 use Rattle.stream.proofs.Quiet.{after-quiet, since-cancel}
-use Rattle.stream.proofs.Rested.{as-rested}
-use Rattle.stream.proofs.Paths.{legal-path}
+use Rattle.stream.proofs.Rested.{rested-from}
+use Rattle.stream.proofs.Paths.{moves-path, written-leads}
 
 -- ---- of a profile that keeps what is asked of it
 
@@ -25,19 +27,25 @@ module _ {S C R : Type 0} {profile : Profile S C} {table : ℕ → ℕ → ℕ} 
   -- What is always true: all 256 contacts are there, each in a live state, at 0, 0 where it is out of range, at most so many active as may be, and
   -- none where the stream ignores.
   pub every-message-keeps-it : (s : Stream S) (gs : List (Given S C)) → AllProper profile Fits s gs → Kept profile Live PlaceFits s → Kept profile Live PlaceFits (after profile s gs)
-  every-message-keeps-it = after-kept law
+  unfolding after AllProper
+  every-message-keeps-it s [] p k = k
+  every-message-keeps-it s (g ∷ gs) p k = every-message-keeps-it (next profile s g) gs (p .1) (next-kept law s g (p .0) k)
 
   -- "Each contact's records are a legal path through the three states from out of range": from rest on, and it ends where the stream has that
   -- contact.
   pub each-contact's-records-are-a-legal-path : (id : ℕ) → id < contacts → (s : Stream S) (gs : List (Given S C)) → s .machine .table ≡ resting → AllProper profile Fits s gs
       → let t : Table = after profile s gs .machine .table in path table seen id (recordsIn read (written profile s gs)) out origin ≡ at (stateAt t id) (placeAt t id)
-  each-contact's-records-are-a-legal-path = legal-path law
+  each-contact's-records-are-a-legal-path id l s gs e p =
+      moves-path id (s .machine .table) (written profile s gs) (after profile s gs .machine .table) e
+      (written-leads law id l s gs p (resting-steady law (profile .rules (s .settings) .most) (s .machine) e))
 
   -- "From any opening frame accepted while no contact is active, the records and the contact table are those of a rested receiver with the same
   -- settings given that frame and all that follows": f is the opening frame, in either mode, after the frames fs of its message.
   pub from-an-opening-frame-as-if-rested : (s : Stream S) → Kept profile Live PlaceFits s → (fs : List (Frame C)) (f : Frame C) (gs : List (Frame C)) → All (FrameFits Fits) (fs ++ (f ∷ gs)) → opens (profile .view) f ≡ true
       → NoneActive (machineAt profile s fs .table) → (more : List (Given S C)) → AsRested profile s fs f gs more
-  from-an-opening-frame-as-if-rested = as-rested law
+  from-an-opening-frame-as-if-rested s k fs f gs h o idle more =
+      let t = frames-kept law s fs (all-front (FrameFits Fits) fs (f ∷ gs) h) k .table in
+      rested-from profile s fs f gs o (none-active-rests (machineAt profile s fs .table) (t .whole) (t .places) idle) more
 
 -- ---- of any profile
 
@@ -58,4 +66,6 @@ module _ {S C : Type 0} (profile : Profile S C) where
 
   -- "The three counts add up to frameCount."
   pub counts-add-up-to-frame-count : (s : Stream S) (fs : List (Frame C)) → total (countsAt profile s fs) ≡ length fs
-  counts-add-up-to-frame-count = counts-at profile
+  counts-add-up-to-frame-count s fs =
+      let u = profile .untimed (s .settings) in
+      counts-total (profile .view) (profile .rules (s .settings)) (s .machine) (timedFrames u fs) ∙ timed-length u fs

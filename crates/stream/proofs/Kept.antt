@@ -1,18 +1,14 @@
 -- What is true of a stream after any messages.
 -- Assumes nothing.
 use Prim.Native.Nat.{ℕ}
-use mathlib.Core.Path.{_≡_, _∙_}
 use mathlib.Core.Bool.{Bool, true, false}
 use mathlib.Core.List.{List, [], _∷_, _++_}
 use lib.Dec.{lit<}
-use lib.ListN.{length}
 use Rattle.house.specs.declared.Point.{Point}
 use Rattle.framing.specs.Frame.{Frame, timedFrame, timedFrames}
-use Rattle.framing.proofs.Timed.{timed-length}
-use Rattle.machine.proofs.Machine.{total, counts-total}
-use Rattle.stream.specs.Stream.{Profile, Stream, Given, nothing, settings, frames, dismissal, machineAt, countsAt, next, after}
+use Rattle.stream.specs.Stream.{Profile, Stream, Given, nothing, settings, frames, dismissal, machineAt, next}
 use Rattle.stream.specs.Path.{Seen}
-use Rattle.stream.specs.Asked.{Laws, All, FrameFits, Proper, AllProper}
+use Rattle.stream.specs.Asked.{Laws, All, FrameFits, Proper}
 use Rattle.stream.proofs.Steadiness.{Steady, resting-steady, run-steady, dismiss-steady}
 
 -- ---- frames that fit: the first of them, and as they are written
@@ -45,15 +41,3 @@ module _ {S C R : Type 0} {profile : Profile S C} {table : ℕ → ℕ → ℕ} 
   next-kept s (settings x) p k = resting-steady law (profile .rules x .most) (s .machine) p
   next-kept s (frames fs) p k = frames-kept s fs p k
   next-kept s (dismissal id) p k = dismiss-steady law (profile .rules (s .settings) .most) (s .machine) id k
-
-  pub after-kept : (s : Stream S) (gs : List (Given S C)) → AllProper profile Fits s gs → Kept profile Live PlaceFits s → Kept profile Live PlaceFits (after profile s gs)
-  unfolding after AllProper
-  after-kept s [] p k = k
-  after-kept s (g ∷ gs) p k = after-kept (next profile s g) gs (p .1) (next-kept s g (p .0) k)
-
--- ---- the counts of a message
-
-pub counts-at : {S C : Type 0} (profile : Profile S C) (s : Stream S) (fs : List (Frame C)) → total (countsAt profile s fs) ≡ length fs
-counts-at profile s fs =
-    let u = profile .untimed (s .settings) in
-    counts-total (profile .view) (profile .rules (s .settings)) (s .machine) (timedFrames u fs) ∙ timed-length u fs

@@ -28,7 +28,7 @@ use Rattle.machine.proofs.Machine.{cancel-active, cancel-out}
 use Rattle.stream.specs.Stream.{Profile, Stream, Given, nothing, settings, frames, dismissal, next, wrote, after, written}
 use Rattle.stream.specs.Path.{recordsFrom, recordsIn, Seen, head, contact, Path, at, andOn, mayStep, stepped, pathStep, path}
 use Rattle.stream.specs.Asked.{Laws, All, FrameFits, Proper, AllProper}
-use Rattle.stream.proofs.Steadiness.{Sound, Conforming, conforming, moved-sound, Judged, judged, injects, ignores, Steady, step-steady, resting-steady, beyond}
+use Rattle.stream.proofs.Steadiness.{Sound, Conforming, conforming, moved-sound, Judged, judged, injects, ignores, Steady, step-steady, beyond}
 use Rattle.stream.proofs.Kept.{Kept, next-kept, timed-fit}
 
 -- ---- records, one after the other
@@ -42,11 +42,11 @@ records-one read s t h =
 -- ---- bytes that lead a contact from one state and position to another, whatever follows
 
 module _ {R : Type 0} (next : ℕ → ℕ → ℕ) (read : List ℕ → R) (seen : R → Seen) where
-  record Leads (id s : ℕ) (p : Point) (bytes : List ℕ) (s′ : ℕ) (p′ : Point) : Type 0 where
+  pub record Leads (id s : ℕ) (p : Point) (bytes : List ℕ) (s′ : ℕ) (p′ : Point) : Type 0 where
     pub leads : (rest : List ℕ) → path next seen id (recordsIn read (bytes ++ rest)) s p ≡ path next seen id (recordsIn read rest) s′ p′
 
   -- from the one table to the other
-  abbrev Moves : ℕ → Table → List ℕ → Table → Type 0
+  abbrev pub Moves : ℕ → Table → List ℕ → Table → Type 0
   Moves id t bytes u = Leads id (stateAt t id) (placeAt t id) bytes (stateAt u id) (placeAt u id)
 
 module _ {R : Type 0} {next : ℕ → ℕ → ℕ} {read : List ℕ → R} {seen : R → Seen} where
@@ -70,7 +70,7 @@ module _ {R : Type 0} {next : ℕ → ℕ → ℕ} {read : List ℕ → R} {seen
       leads-then id (stateAt t id) (placeAt t id) a (stateAt u id) (placeAt u id) b (stateAt v id) (placeAt v id) h k
 
   -- all that was written, from a resting table on
-  moves-path : (id : ℕ) (t : Table) (bytes : List ℕ) (u : Table) → t ≡ resting → Moves next read seen id t bytes u → path next seen id (recordsIn read bytes) out origin ≡ at (stateAt u id) (placeAt u id)
+  pub moves-path : (id : ℕ) (t : Table) (bytes : List ℕ) (u : Table) → t ≡ resting → Moves next read seen id t bytes u → path next seen id (recordsIn read bytes) out origin ≡ at (stateAt u id) (placeAt u id)
   unfolding path recordsIn recordsFrom
   moves-path id t bytes u e h =
       let a = ap (λ (v : Table). stateAt v id) e ∙ resting-state id in
@@ -327,16 +327,10 @@ module _ {S C R : Type 0} {profile : Profile S C} {table : ℕ → ℕ → ℕ} 
         run-leads (s .settings) (s .machine) (timedFrames u fs) k (timed-fit Fits u fs p)
     next-leads s (dismissal i) p k = dismissal-leads (s .machine .table) (k .table) i id
 
-    written-leads : (s : Stream S) (gs : List (Given S C)) → AllProper profile Fits s gs → Kept profile Live PlaceFits s → MovesBy id (s .machine .table) (written profile s gs) (after profile s gs .machine .table)
+    pub written-leads : (s : Stream S) (gs : List (Given S C)) → AllProper profile Fits s gs → Kept profile Live PlaceFits s → MovesBy id (s .machine .table) (written profile s gs) (after profile s gs .machine .table)
     unfolding written after AllProper
     written-leads s [] p k = moves-none id (s .machine .table)
     written-leads s (g ∷ gs) p k =
         let n = next profile s g in
         moves-then id (s .machine .table) (wrote profile s g) (n .machine .table) (written profile n gs) (after profile n gs .machine .table)
         (next-leads s g (p .0) k) (written-leads n gs (p .1) (next-kept law s g (p .0) k))
-
-    pub legal-path : (s : Stream S) (gs : List (Given S C)) → s .machine .table ≡ resting → AllProper profile Fits s gs
-        → let t : Table = after profile s gs .machine .table in path table seen id (recordsIn read (written profile s gs)) out origin ≡ at (stateAt t id) (placeAt t id)
-    legal-path s gs e p =
-        moves-path id (s .machine .table) (written profile s gs) (after profile s gs .machine .table) e
-        (written-leads s gs p (resting-steady law (profile .rules (s .settings) .most) (s .machine) e))

@@ -4,7 +4,6 @@ use Prim.Native.Nat.{ℕ}
 use mathlib.Core.Path.{_≡_, refl, ap, _∙_}
 use mathlib.Core.Bool.{Bool, true, false, cond}
 use mathlib.Core.List.{List, [], _∷_, _++_, append-assoc}
-use Rattle.house.specs.declared.Point.{Point}
 use Rattle.framing.specs.Frame.{Frame, timedFrame, timedFrames}
 use Rattle.framing.proofs.Timed.{timed-cons, timed-append}
 use Rattle.machine.specs.Table.{Table, resting}
@@ -12,11 +11,7 @@ use Rattle.machine.specs.Rules.{View, Rules}
 use Rattle.machine.specs.Conforms.{conforms}
 use Rattle.machine.specs.Machine.{Machine, injected, cancelled, verdict, machineAfter, bytesFor, stepMachine, stepBytes, runMachine, runBytes}
 use Rattle.machine.proofs.Machine.{machine-append, bytes-append}
-use Rattle.stream.specs.Stream.{Profile, Stream, Given, frames, begunAfter, opens, rested, NoneActive, machineAt, bytesAt, next, wrote, after, written, AsRested}
-use Rattle.stream.specs.Path.{Seen}
-use Rattle.stream.specs.Asked.{Laws, All, FrameFits}
-use Rattle.stream.proofs.Steadiness.{none-active-rests}
-use Rattle.stream.proofs.Kept.{Kept, frames-kept, all-front}
+use Rattle.stream.specs.Stream.{Profile, Stream, Given, frames, begunAfter, opens, rested, machineAt, bytesAt, next, wrote, after, written, AsRested}
 use Rattle.stream.proofs.Quiet.{timed-opens}
 
 -- ---- an opening frame, in either mode
@@ -107,7 +102,7 @@ module _ {S C : Type 0} (profile : Profile S C) (s : Stream S) (fs : List (Frame
   unfolding wrote
   rested-wrote = whole-bytes
 
-  rested-from : (more : List (Given S C)) → AsRested profile s fs f gs more
+  pub rested-from : (more : List (Given S C)) → AsRested profile s fs f gs more
   unfolding after written
   rested-from more =
       let q = next profile (rested (s .settings)) (frames (f ∷ gs)) in
@@ -119,11 +114,3 @@ module _ {S C : Type 0} (profile : Profile S C) (s : Stream S) (fs : List (Frame
             (λ i. rested-wrote i ++ written profile (rested-next i) more)
             ∙ append-assoc (bytesAt profile s fs) (wrote profile (rested (s .settings)) (frames (f ∷ gs))) (written profile q more);
       }
-
-module _ {S C R : Type 0} {profile : Profile S C} {table : ℕ → ℕ → ℕ} {read : List ℕ → R} {seen : R → Seen} {Live : ℕ → Type 0} {Fits : C → Type 0} {PlaceFits : Point → Type 0} (law : Laws profile table read seen Live Fits PlaceFits) where
-  -- no contact active is the resting table
-  pub as-rested : (s : Stream S) → Kept profile Live PlaceFits s → (fs : List (Frame C)) (f : Frame C) (gs : List (Frame C)) → All (FrameFits Fits) (fs ++ (f ∷ gs)) → opens (profile .view) f ≡ true
-      → NoneActive (machineAt profile s fs .table) → (more : List (Given S C)) → AsRested profile s fs f gs more
-  as-rested s k fs f gs h o idle more =
-      let t = frames-kept law s fs (all-front (FrameFits Fits) fs (f ∷ gs) h) k .table in
-      rested-from profile s fs f gs o (none-active-rests (machineAt profile s fs .table) (t .whole) (t .places) idle) more

@@ -9,7 +9,7 @@ use lib.Dec.{leb, ltb, lit<, leb→le}
 use lib.IntN.{pos}
 use lib.ListN.{getD}
 use Rattle.states.specs.Table.{table, placeOf, unlisted, from, out, hovering, engaged, next}
-use Rattle.states.proofs.Below.{below}
+use Rattle.tables.proofs.Below.{below}
 use Rattle.states.proofs.Rule.{entries, rule, no-state, no-row}
 use Rattle.house.specs.Twos.{Holds}
 use Rattle.house.specs.Fits.{ContactFits}

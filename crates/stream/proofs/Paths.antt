@@ -20,7 +20,8 @@ use Rattle.house.proofs.Round.{length-head}
 use Rattle.house.proofs.WellFormed.{never}
 use Rattle.framing.specs.Frame.{Frame, headOf, timedFrames, contactsBytes, frameBytes}
 use Rattle.machine.specs.Table.{Table, contacts, stateAt, placeAt, withContact, origin, resting, active}
-use Rattle.machine.specs.Conforms.{every, distinct, nextOf, legal, sameNumber, samePlace, stays, placeIn, moved, tableAfter}
+use Rattle.tables.specs.Same.{sameNumber}
+use Rattle.machine.specs.Conforms.{every, distinct, nextOf, legal, samePlace, stays, placeIn, moved, tableAfter}
 use Rattle.machine.specs.Machine.{Machine, storedBytes, cancelFlags, cancelBytes, cancelsFrom, cancels, stepMachine, stepBytes, runMachine, runBytes, dismissTable, dismissBytes}
 use Rattle.machine.proofs.Table.{state-same, place-same, state-other, place-other, resting-state, resting-place}
 use Rattle.machine.proofs.Conforms.{every-first, every-others, distinct-first, distinct-others, legal-behind, stays-behind}

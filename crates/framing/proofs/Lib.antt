@@ -4,3 +4,4 @@ pub mod Laws
 pub mod Order
 pub mod Reading
 pub mod Tail
+pub mod Begun

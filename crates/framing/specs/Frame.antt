@@ -2,6 +2,7 @@
 use Prim.Native.Nat.{ℕ}
 use mathlib.Core.Bool.{Bool, cond}
 use mathlib.Core.List.{List, [], _∷_, _++_, map}
+use lib.Dec.{eqb}
 use lib.ListN.{length}
 use Rattle.paper.specs.declared.Milliseconds.{Milliseconds}
 use Rattle.paper.specs.declared.Microseconds.{Microseconds}
@@ -32,6 +33,10 @@ timedFrame untimed f = cond untimed (withoutOffset f) f
 
 unfoldable pub timedFrames : {C : Type 0} → Bool → List (Frame C) → List (Frame C)
 timedFrames untimed fs = map (timedFrame untimed) fs
+
+-- the first-frame mark after a message of so many frames: one with a frame sets it
+abbrev pub begunBy : {M : Type 0} → M → M → ℕ → M
+begunBy set begun frames = cond (eqb frames 0) begun set
 
 -- ---- "One head record, then its contacts in message order. An empty frame gives its head."
 

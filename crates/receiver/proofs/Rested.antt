@@ -5,9 +5,8 @@ use mathlib.Core.Path.{_≡_, refl, sym, ap, _∙_}
 use mathlib.Core.Bool.{Bool, true, false, cond, not}
 use mathlib.Core.List.{List, [], _∷_, _++_, append-assoc}
 use native.Mathlib.Omega.{arith}
-use borrow.Author.Tests.{ne-eqb}
 use lib.Dec.{leb}
-use lib.ListN.{length, drop, length-append}
+use lib.ListN.{length, drop}
 use Rattle.paper.specs.Refusals.{noRoom}
 use Rattle.paper.specs.declared.Milliseconds.{Milliseconds}
 use Rattle.slices.specs.Writing.{bytes, given}
@@ -18,14 +17,15 @@ use Rattle.fields.specs.Integers.{strict}
 use Rattle.messages.specs.Header.{headerBytes}
 use Rattle.messages.specs.declared.Ready.{Ready}
 use Rattle.house.specs.declared.Contact.{Contact}
-use Rattle.framing.specs.Frame.{Frame}
+use Rattle.framing.proofs.Begun.{begun-some}
+use Rattle.framing.specs.Frame.{Frame, begunBy}
 use Rattle.touch.specs.Touch.{Touch, body}
 use Rattle.stream.specs.Stream.{Stream, frames, opens, NoneActive}
 use Rattle.stream.specs.Stream as stream
 use Rattle.stream.proofs.Demand.{from-an-opening-frame-as-if-rested}
 use Rattle.receiver.specs.declared.Receiver.{Receiver}
 use Rattle.receiver.specs.declared.Answer.{Answer}
-use Rattle.receiver.specs.Receive.{off, mark, Effect, judged, touched, effect, refusal, answerOf, receiverAfter, answerAfter, untimed, begunBy, timeBy}
+use Rattle.receiver.specs.Receive.{off, mark, Effect, judged, touched, effect, refusal, answerOf, receiverAfter, answerAfter, untimed, timeBy}
 use Rattle.receiver.specs.History.{Sent, next, answerTo, wrote, after, written, outcomes, messagesOf, Roomy, touchIn, rested, touchProfile, streamOf, machineAt, bytesAt, Cut, AsRested}
 use Rattle.receiver.proofs.Became.{Does, does, fails, settles, touches, dismisses}
 use Rattle.receiver.proofs.Lawful.{touch-law}
@@ -51,16 +51,13 @@ mark-off : (b : Bool) → mark (not b) ≡ mark (not (off (mark (not b))))
 mark-off true = refl
 mark-off false = refl
 
-begun-after : (begun : ℕ) (fs : List (Frame Contact)) (f : Frame Contact) (gs : List (Frame Contact)) → begunBy begun (length (fs ++ (f ∷ gs))) ≡ 1
-begun-after begun fs f gs = rw (ne-eqb (length (fs ++ (f ∷ gs))) 0 (λ e. omega (arith, length-append fs (f ∷ gs))))
-
 from-stream : (r : Receiver) (time : Milliseconds) (fs : List (Frame Contact)) (f : Frame Contact) (gs : List (Frame Contact))
     → let q : Receiver = touched r (record { time = time; frames = fs ++ (f ∷ gs) }) .receiver in q ≡ ofStream (r .ready) (streamOf q)
 unfolding touched
 from-stream r time fs f gs =
     let a = machineAt r (fs ++ (f ∷ gs)) in
-    let b = begun-after (r .begun) fs f gs in
-    let c : begunBy (r .begun) (length (fs ++ (f ∷ gs))) ≡ mark (not (off (begunBy (r .begun) (length (fs ++ (f ∷ gs)))))) = rw b in
+    let b = begun-some 1 (r .begun) fs f gs in
+    let c : begunBy 1 (r .begun) (length (fs ++ (f ∷ gs))) ≡ mark (not (off (begunBy 1 (r .begun) (length (fs ++ (f ∷ gs)))))) = rw b in
     λ i. record {
       ready = r .ready;
       begun = c i;

@@ -2,21 +2,20 @@
 -- Assumes nothing.
 use Prim.Native.Nat.{ℕ}
 use mathlib.Core.Path.{_≡_, refl, ap, _∙_}
-use mathlib.Core.Bool.{Bool, true, false, not}
+use mathlib.Core.Bool.{Bool, true, false, cond, not}
 use mathlib.Core.List.{List, [], _∷_, _++_}
-use native.Mathlib.Omega.{arith}
-use borrow.Author.Tests.{ne-eqb}
+use lib.Dec.{eqb}
 use lib.ListN.{length}
 use Rattle.messages.specs.declared.Ready.{Ready}
 use Rattle.house.specs.declared.Contact.{Contact}
-use Rattle.framing.specs.Frame.{Frame}
+use Rattle.framing.specs.Frame.{Frame, begunBy}
 use Rattle.touch.specs.Touch.{Touch}
 use Rattle.contacts.specs.Touch.{touchView}
-use Rattle.stream.specs.Stream.{Stream, Given, nothing, settings, frames, dismissal, framesIn, begunAfter}
+use Rattle.stream.specs.Stream.{Stream, Given, nothing, settings, frames, dismissal, framesGiven}
 use Rattle.stream.specs.Stream as stream
 use Rattle.receiver.specs.declared.Receiver.{Receiver}
 use Rattle.receiver.specs.declared.Answer.{Answer}
-use Rattle.receiver.specs.Receive.{off, mark, machineOf, begunBy, touched}
+use Rattle.receiver.specs.Receive.{off, mark, machineOf, touched}
 use Rattle.receiver.specs.History.{Sent, next, wrote, after, written, framesTaken, Unopened, touchProfile, streamOf, machineAt, bytesAt}
 use Rattle.receiver.proofs.Became.{Became, became, refused, settles, touches, dismisses}
 
@@ -36,13 +35,16 @@ pub bytes-touched : (r : Receiver) (m : Touch) → touched r m .bytes ≡ bytesA
 unfolding touched
 bytes-touched r m = refl
 
-begun-touched : (begun : ℕ) (fs : List (Frame Contact)) → not (off (begunBy begun (length fs))) ≡ begunAfter (not (off begun)) fs
-begun-touched begun [] = refl
-begun-touched begun (f ∷ fs) = rw (ne-eqb (length (f ∷ fs)) 0 (λ e. omega arith))
+begun-touched : (begun n : ℕ) → not (off (begunBy 1 begun n)) ≡ begunBy true (not (off begun)) n
+begun-touched begun n = go (eqb n 0)
+  where
+    go : (b : Bool) → not (off (cond b begun 1)) ≡ cond b (not (off begun)) true
+    go true = refl
+    go false = refl
 
 pub stream-touched : (r : Receiver) (m : Touch) → streamOf (touched r m .receiver) ≡ stream.next touchProfile (streamOf r) (frames (m .frames))
 unfolding touched stream.next
-stream-touched r m = λ i. record { settings = r .settings; machine = machine-touched r m i; begun = begun-touched (r .begun) (m .frames) i }
+stream-touched r m = λ i. record { settings = r .settings; machine = machine-touched r m i; begun = begun-touched (r .begun) (length (m .frames)) i }
 
 -- ---- one message
 
@@ -68,7 +70,7 @@ module _ (r : Receiver) (l : List ℕ) where
   became-bytes (touches m t o e) = bytes-touched r m
   became-bytes (dismisses id t o e) = refl
 
-  became-frames : {q : Receiver} {s : List ℕ} {a : Answer} {fs : List (Frame Contact)} (b : Became r l q s a fs) → framesIn (fromBecame b) ≡ fs
+  became-frames : {q : Receiver} {s : List ℕ} {a : Answer} {fs : List (Frame Contact)} (b : Became r l q s a fs) → framesGiven (fromBecame b) ≡ fs
   became-frames (refused n) = refl
   became-frames (settles s o) = refl
   became-frames (touches m t o e) = refl
@@ -84,7 +86,7 @@ stream-next r x = became-stream r (x .message) (became r x)
 stream-wrote : (r : Receiver) (x : Sent) → wrote r x ≡ stream.wrote touchProfile (streamOf r) (givenBy r x)
 stream-wrote r x = became-bytes r (x .message) (became r x)
 
-pub given-frames : (r : Receiver) (x : Sent) → framesIn (givenBy r x) ≡ framesTaken r x
+pub given-frames : (r : Receiver) (x : Sent) → framesGiven (givenBy r x) ≡ framesTaken r x
 given-frames r x = became-frames r (x .message) (became r x)
 
 -- ---- a history

@@ -16,7 +16,7 @@ use Rattle.formats.proofs.Laws.{never}
 use Rattle.formats.proofs.Steps.{tail}
 use Rattle.fields.specs.Integers.{strict}
 use Rattle.house.specs.declared.Contact.{Contact}
-use Rattle.framing.specs.Frame.{Frame, timedFrames}
+use Rattle.framing.specs.Frame.{Frame, timedFrames, begunBy}
 use Rattle.touch.specs.Limits.{touchLimits}
 use Rattle.framing.proofs.Reading.{frames-freed}
 use Rattle.framing.specs.Format.{bodyHeadOf, summary}
@@ -35,7 +35,7 @@ use Rattle.runs.specs.declared.Run.{Run}
 use Rattle.receiver.specs.declared.Receiver.{Receiver}
 use Rattle.receiver.specs.declared.Answer.{Answer}
 use Rattle.receiver.specs.declared.Received.{Received}
-use Rattle.receiver.specs.Receive.{off, mark, rulesOf, machineOf, untimed, judged, touched, refusal, answerOf, begunBy, timeBy}
+use Rattle.receiver.specs.Receive.{off, mark, rulesOf, machineOf, untimed, judged, touched, refusal, answerOf, timeBy}
 use Rattle.receiver.specs.Events.{answerOfRun, Gives, touchEffect, Tallies, Rooms, Carried, Carries}
 use Rattle.receiver.proofs.Weight.{touch-small}
 use Rattle.receiver.proofs.Answering.{gives-refused, gives-none, gives-done}
@@ -86,7 +86,7 @@ module _ (r : Receiver) (l : List ℕ) (un : Bool) (eu : un ≡ untimed r) (acti
 
   module _ (h : BodyHead) (x : Runs (h .frames) l un true (off (r .ignoring)) (rulesOf r) active run (machineOf r .table) u before after)
       (b i : ℕ) (time : Milliseconds) (answer : Answer)
-      (eb : b ≡ begunBy (r .begun) (h .frames)) (ei : i ≡ mark (not (run .running))) (et : time ≡ cond un (record { 0 = 0 }) (h .time)) (ea : answer ≡ answerOfRun run time) where
+      (eb : b ≡ begunBy 1 (r .begun) (h .frames)) (ei : i ≡ mark (not (run .running))) (et : time ≡ cond un (record { 0 = 0 }) (h .time)) (ea : answer ≡ answerOfRun run time) where
     module _ (m : Touch) (rest : List ℕ) (eh : h ≡ bodyHeadOf m) (e : readSeries frameBy false (h .frames) l ≡ got (m .frames) rest) where
       ran : Ran (rulesOf r) (timedFrames (untimed r) (m .frames)) true (off (r .ignoring)) run (machineOf r .table) u before after
       ran = rw (frames-same r un eu (m .frames)) at (x .ran (m .frames) rest e a)
@@ -94,7 +94,7 @@ module _ (r : Receiver) (l : List ℕ) (un : Bool) (eu : un ≡ untimed r) (acti
       receiver-is : record { ready = r .ready; begun = b; ignoring = i; settings = r .settings; states = u .states; xs = u .xs; ys = u .ys } ≡ touched r m .receiver
       unfolding touched
       receiver-is =
-          let eb′ = eb ∙ ap (λ (g : BodyHead). begunBy (r .begun) (g .frames)) eh in
+          let eb′ = eb ∙ ap (λ (g : BodyHead). begunBy 1 (r .begun) (g .frames)) eh in
           let ei′ = ei ∙ ap (λ (k : Machine). mark (not (k .running))) (ran .machine) in
           let s = ap (λ (k : Machine). k .table .states) (ran .machine) in
           let p = ap (λ (k : Machine). k .table .xs) (ran .machine) in

@@ -15,7 +15,7 @@ use Rattle.messages.specs.Header.{headed, clientReady, touch, dismiss}
 use Rattle.messages.specs.Bodies.{ready}
 use Rattle.messages.specs.declared.Ready.{Ready}
 use Rattle.house.specs.declared.Contact.{Contact}
-use Rattle.framing.specs.Frame.{Frame, timedFrames}
+use Rattle.framing.specs.Frame.{Frame, timedFrames, begunBy}
 use Rattle.touch.specs.Touch.{Touch, body}
 use Rattle.machine.specs.Rules.{Rules}
 use Rattle.machine.specs.Table.{Table, resting}
@@ -83,10 +83,6 @@ judgedBy flags begun = cond (untimedBy flags) false (off begun)
 abbrev pub judged : Receiver → Bool
 judged r = judgedBy (r .settings .flags) (r .begun)
 
--- the first-frame mark after a touch message of so many frames
-abbrev pub begunBy : ℕ → ℕ → ℕ
-begunBy begun frames = cond (eqb frames 0) begun 1
-
 unfoldable pub touched : Receiver → Touch → Effect
 touched r m =
     let fs : List (Frame Contact) = timedFrames (untimed r) (m .frames) in
@@ -94,7 +90,7 @@ touched r m =
     record {
       receiver = record {
         ready = r .ready;
-        begun = begunBy (r .begun) (length (m .frames));
+        begun = begunBy 1 (r .begun) (length (m .frames));
         ignoring = mark (not (a .running));
         settings = r .settings;
         states = a .table .states;

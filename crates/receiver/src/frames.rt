@@ -10,8 +10,9 @@ use touch::CheckedBody;
 ghost use mathlib.Core.Path.{_≡_};
 ghost use mathlib.Core.Bool.{cond, not};
 ghost use Rattle.contacts.specs.Ruling.{tableFrom, Counted};
-ghost use Rattle.receiver.specs.Receive.{mark, untimedBy, judgedBy, begunBy, untimed};
+ghost use Rattle.receiver.specs.Receive.{mark, untimedBy, judgedBy, untimed};
 ghost use Rattle.receiver.specs.Events.{ofParts, turned, answerOfRun, Gives, touchEffect, Tallies, Rooms, Carries};
+ghost use Rattle.framing.specs.Frame.{begunBy};
 
 // How many contacts there are: an id is a byte.
 const CONTACTS: usize = 256;
@@ -45,7 +46,7 @@ fn time_for(time: Milliseconds, untimed: bool) -> Milliseconds
 
 // The first-frame mark after a message of so many frames.
 fn begun_after(begun: u8, frames: u8) -> u8
-    ensures { λ r. ⌜ r ≡ begunBy begun frames ⌝ }
+    ensures { λ r. ⌜ r ≡ begunBy 1 begun frames ⌝ }
 {
     if frames == 0 {
         return begun;

@@ -12,7 +12,7 @@ use Rattle.framing.proofs.Timed.{timed-length}
 use Rattle.machine.specs.Table.{Table, contacts, stateAt, placeAt, origin, resting}
 use Rattle.machine.specs.Machine.{cancels}
 use Rattle.machine.proofs.Machine.{total, counts-total}
-use Rattle.stream.specs.Stream.{Profile, Stream, Given, framesIn, opens, unopened, Unopened, Silent, NoneActive, machineAt, bytesAt, countsAt, CancelledAfter, next, after, written, AsRested}
+use Rattle.stream.specs.Stream.{Profile, Stream, Given, framesGiven, opens, unopened, Unopened, Silent, NoneActive, machineAt, bytesAt, countsAt, CancelledAfter, next, after, written, AsRested}
 use Rattle.stream.specs.Path.{Seen, recordsIn, path, at}
 use Rattle.stream.specs.Asked.{Laws, All, FrameFits, AllProper}
 use Rattle.stream.proofs.Steadiness.{none-active-rests, resting-steady}
@@ -58,7 +58,7 @@ module _ {S C : Type 0} (profile : Profile S C) where
   -- Of a message with the frames fs, f, gs, where f is cancelled and none of gs opens, and of all messages after it, as long as no opening frame is
   -- accepted, nothing is written but the records of fs and the cancel's own.
   pub after-a-cancel-nothing-until-an-opening-frame : (s : Stream S) (g : Given S C) (more : List (Given S C)) (fs : List (Frame C)) (f : Frame C) (gs : List (Frame C))
-      → framesIn g ≡ fs ++ (f ∷ gs) → CancelledAfter profile s fs f → unopened (profile .view) gs ≡ true → Unopened (profile .view) more
+      → framesGiven g ≡ fs ++ (f ∷ gs) → CancelledAfter profile s fs f → unopened (profile .view) gs ≡ true → Unopened (profile .view) more
       → (written profile s (g ∷ more) ≡ bytesAt profile s fs ++ cancels (profile .view) (machineAt profile s fs .table)) × Silent (after profile s (g ∷ more))
   after-a-cancel-nothing-until-an-opening-frame s g more fs f gs e v u k =
       let c = since-cancel profile s g more fs f gs e v u k in

@@ -17,7 +17,7 @@ use Rattle.machine.specs.Machine.{Machine, cancelled, opening, verdict, cancels
 use Rattle.machine.proofs.Table.{resting-state}
 use Rattle.machine.proofs.Conforms.{every-first, every-others}
 use Rattle.machine.proofs.Machine.{verdict-other, ignored-machine, ignored-bytes, cancelled-machine, cancelled-bytes, machine-append, bytes-append, keep-table, keep-bytes}
-use Rattle.stream.specs.Stream.{Profile, Stream, Given, nothing, settings, frames, dismissal, framesIn, opens, unopened, Unopened, Silent, machineAt, bytesAt, CancelledAfter, next, wrote, after, written}
+use Rattle.stream.specs.Stream.{Profile, Stream, Given, nothing, settings, frames, dismissal, framesGiven, opens, unopened, Unopened, Silent, machineAt, bytesAt, CancelledAfter, next, wrote, after, written}
 
 -- what a cancelled frame leaves
 abbrev pub silenced : Machine
@@ -81,7 +81,7 @@ silent-by : {S : Type 0} (s : Stream S) → s .machine ≡ silenced → Silent s
 silent-by s e = record { ignoring = ap (λ (m : Machine). m .running) e; resting = ap (λ (m : Machine). m .table) e }
 
 module _ {S C : Type 0} (profile : Profile S C) where
-  next-quiet : (s : Stream S) (g : Given S C) → Silent s → unopened (profile .view) (framesIn g) ≡ true → Nothing (next profile s g) (wrote profile s g)
+  next-quiet : (s : Stream S) (g : Given S C) → Silent s → unopened (profile .view) (framesGiven g) ≡ true → Nothing (next profile s g) (wrote profile s g)
   unfolding next wrote
   next-quiet s nothing k u = record { still = k; none = refl }
   next-quiet s (settings x) k u = record { still = record { ignoring = k .ignoring; resting = k .resting }; none = refl }
@@ -139,14 +139,14 @@ module _ {S C : Type 0} (profile : Profile S C) where
   no-frame : {P : Type 0} (fs gs : List (Frame C)) (f : Frame C) → [] ≡ fs ++ (f ∷ gs) → P
   no-frame fs gs f e = absurd (omega (arith, simp length-append at (ap length e)))
 
-  cancel-next : (s : Stream S) (g : Given S C) (fs : List (Frame C)) (f : Frame C) (gs : List (Frame C)) → framesIn g ≡ fs ++ (f ∷ gs) → CancelledAfter profile s fs f → unopened (profile .view) gs ≡ true
+  cancel-next : (s : Stream S) (g : Given S C) (fs : List (Frame C)) (f : Frame C) (gs : List (Frame C)) → framesGiven g ≡ fs ++ (f ∷ gs) → CancelledAfter profile s fs f → unopened (profile .view) gs ≡ true
       → Since s fs (next profile s g) (wrote profile s g)
   cancel-next s nothing fs f gs e v u = no-frame fs gs f e
   cancel-next s (settings x) fs f gs e v u = no-frame fs gs f e
   cancel-next s (dismissal id) fs f gs e v u = no-frame fs gs f e
   cancel-next s (frames hs) fs f gs e v u = rw e (cancel-silences s fs f gs v u)
 
-  pub since-cancel : (s : Stream S) (g : Given S C) (more : List (Given S C)) (fs : List (Frame C)) (f : Frame C) (gs : List (Frame C)) → framesIn g ≡ fs ++ (f ∷ gs) → CancelledAfter profile s fs f → unopened (profile .view) gs ≡ true
+  pub since-cancel : (s : Stream S) (g : Given S C) (more : List (Given S C)) (fs : List (Frame C)) (f : Frame C) (gs : List (Frame C)) → framesGiven g ≡ fs ++ (f ∷ gs) → CancelledAfter profile s fs f → unopened (profile .view) gs ≡ true
       → Unopened (profile .view) more → Since s fs (after profile s (g ∷ more)) (written profile s (g ∷ more))
   unfolding after written
   since-cancel s g more fs f gs e v u k =

@@ -1,17 +1,19 @@
 -- From an opening frame on, while no contact is active, a stream is as a rested one.
 -- Assumes nothing.
 use Prim.Native.Nat.{ℕ}
-use mathlib.Core.Path.{_≡_, refl, ap, _∙_}
+use mathlib.Core.Path.{_≡_, refl, sym, ap, _∙_}
 use mathlib.Core.Bool.{Bool, true, false, cond}
 use mathlib.Core.List.{List, [], _∷_, _++_, append-assoc}
-use Rattle.framing.specs.Frame.{Frame, timedFrame, timedFrames}
+use lib.ListN.{length}
+use Rattle.framing.specs.Frame.{Frame, timedFrame, timedFrames, begunBy}
+use Rattle.framing.proofs.Begun.{begun-some}
 use Rattle.framing.proofs.Timed.{timed-cons, timed-append}
 use Rattle.machine.specs.Table.{Table, resting}
 use Rattle.machine.specs.Rules.{View, Rules}
 use Rattle.machine.specs.Conforms.{conforms}
 use Rattle.machine.specs.Machine.{Machine, injected, cancelled, verdict, machineAfter, bytesFor, stepMachine, stepBytes, runMachine, runBytes}
 use Rattle.machine.proofs.Machine.{machine-append, bytes-append}
-use Rattle.stream.specs.Stream.{Profile, Stream, Given, frames, begunAfter, opens, rested, machineAt, bytesAt, next, wrote, after, written, AsRested}
+use Rattle.stream.specs.Stream.{Profile, Stream, Given, frames, opens, rested, machineAt, bytesAt, next, wrote, after, written, AsRested}
 use Rattle.stream.proofs.Quiet.{timed-opens}
 
 -- ---- an opening frame, in either mode
@@ -87,12 +89,8 @@ module _ {S C : Type 0} (profile : Profile S C) (s : Stream S) (fs : List (Frame
       (bytes-append (profile .view) rules (s .machine) (timedFrames untimed fs) (timedFrame untimed f ∷ timedFrames untimed gs)
       ∙ ap (λ (l : List ℕ). bytesAt profile s fs ++ l) (from-bytes (profile .view) rules (machineAt profile s fs) z (timedFrame untimed f) (timedFrames untimed gs) timed-open))
 
-  begun-whole : begunAfter (s .begun) (fs ++ (f ∷ gs)) ≡ true
-  begun-whole = go fs
-    where
-      go : (hs : List (Frame C)) → begunAfter (s .begun) (hs ++ (f ∷ gs)) ≡ true
-      go [] = refl
-      go (h ∷ hs) = refl
+  begun-whole : begunBy true (s .begun) (length (fs ++ (f ∷ gs))) ≡ begunBy true true (length (f ∷ gs))
+  begun-whole = begun-some true (s .begun) fs f gs ∙ sym (begun-some true true [] f gs)
 
   rested-next : next profile s (frames (fs ++ (f ∷ gs))) ≡ next profile (rested (s .settings)) (frames (f ∷ gs))
   unfolding next rested

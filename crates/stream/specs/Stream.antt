@@ -5,7 +5,8 @@ use mathlib.Core.Path.{_≡_}
 use mathlib.Core.Bool.{Bool, true, false, not}
 use mathlib.Core.List.{List, [], _∷_, _++_}
 use Rattle.states.specs.Table.{out}
-use Rattle.framing.specs.Frame.{Frame, timedFrames}
+use lib.ListN.{length}
+use Rattle.framing.specs.Frame.{Frame, timedFrames, begunBy}
 use Rattle.machine.specs.Table.{Table, stateAt, resting}
 use Rattle.machine.specs.Rules.{View, Rules}
 use Rattle.machine.specs.Conforms.{every}
@@ -32,16 +33,11 @@ pub data Given (S C : Type 0) : Type 0 where
   dismissal : ℕ → Given S C
 
 -- "A frame is accepted when its message is"
-abbrev pub framesIn : {S C : Type 0} → Given S C → List (Frame C)
-framesIn nothing = []
-framesIn (settings x) = []
-framesIn (frames fs) = fs
-framesIn (dismissal id) = []
-
--- a message with a frame sets the first-frame mark
-abbrev pub begunAfter : {C : Type 0} → Bool → List (Frame C) → Bool
-begunAfter begun [] = begun
-begunAfter begun (f ∷ fs) = true
+abbrev pub framesGiven : {S C : Type 0} → Given S C → List (Frame C)
+framesGiven nothing = []
+framesGiven (settings x) = []
+framesGiven (frames fs) = fs
+framesGiven (dismissal id) = []
 
 -- "A rested receiver has accepted event 2, is past its first frame, is running, and has no active contact."
 unfoldable pub rested : {S : Type 0} → S → Stream S
@@ -68,7 +64,7 @@ module _ {C : Type 0} (view : View C) where
   -- no opening frame is accepted
   unfoldable pub Unopened : {S : Type 0} → List (Given S C) → Type 0
   Unopened [] = Unit
-  Unopened (g ∷ gs) = (unopened (framesIn g) ≡ true) × Unopened gs
+  Unopened (g ∷ gs) = (unopened (framesGiven g) ≡ true) × Unopened gs
 
 module _ {S C : Type 0} (profile : Profile S C) where
   -- ---- the first frames of a message: the contacts and the mode after them, what they write, and how they are counted
@@ -91,7 +87,7 @@ module _ {S C : Type 0} (profile : Profile S C) where
   unfoldable pub next : Stream S → Given S C → Stream S
   next s nothing = s
   next s (settings x) = record { settings = x; machine = s .machine; begun = s .begun }
-  next s (frames fs) = record { settings = s .settings; machine = machineAt s fs; begun = begunAfter (s .begun) fs }
+  next s (frames fs) = record { settings = s .settings; machine = machineAt s fs; begun = begunBy true (s .begun) (length fs) }
   next s (dismissal id) =
       record {
         settings = s .settings;

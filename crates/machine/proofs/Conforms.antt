@@ -11,8 +11,8 @@ use lib.ListN.{length, length-set}
 use Rattle.states.specs.Table.{illegal}
 use Rattle.machine.specs.Table.{Table, contacts, stateAt, placeAt, withContact, active, one, countActive}
 use Rattle.machine.specs.Rules.{View}
-use Rattle.machine.specs.Conforms.{every, otherId, distinct, nextOf, legal, stays, placeIn, moved, tableAfter}
-use Rattle.machine.proofs.Table.{Whole, state-other, place-other, with-whole, count-set}
+use Rattle.machine.specs.Conforms.{every, otherId, distinct, nextOf, legal, stays, placeIn, moved}
+use Rattle.machine.proofs.Table.{state-other, place-other, count-set}
 
 -- ---- both of two tests
 
@@ -86,15 +86,6 @@ module _ {C : Type 0} (view : View C) where
   inTable c = ltb (view .id c) contacts
 
   module _ (next : ℕ → ℕ → ℕ) where
-    pub moved-whole : (t : Table) (c : C) → Whole t → Whole (moved view next t c)
-    unfolding moved
-    moved-whole t c w = with-whole t (view .id c) (nextOf view next t c) (placeIn (nextOf view next t c) (view .place c)) w
-
-    pub after-whole : (t : Table) (cs : List C) → Whole t → Whole (tableAfter view next t cs)
-    unfolding tableAfter
-    after-whole t [] w = w
-    after-whole t (c ∷ cs) w = after-whole (moved view next t c) cs (moved-whole t c w)
-
     module _ (t : Table) (c : C) where
       -- a contact goes from its state before the frame, also behind others
       pub moved-other : (d : C) → otherId view (view .id c) d ≡ true → stateAt (moved view next t c) (view .id d) ≡ stateAt t (view .id d)

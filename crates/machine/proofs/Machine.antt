@@ -8,7 +8,6 @@ use native.Mathlib.Nat.{add-zero, zero-add, add-assoc}
 use native.Mathlib.Numerals.{add-one}
 use native.Mathlib.Omega.{arith}
 use borrow.Author.Tests.{ne-eqb}
-use lib.Dec.{eqb}
 use lib.ListN.{length, take, drop, length-append}
 use Rattle.house.specs.Fields.{recordBytes}
 use Rattle.house.specs.Layout.{touched, cancelled as cancelKind, dismissed as dismissKind}
@@ -17,9 +16,8 @@ use Rattle.states.specs.Table.{out, hovering}
 use Rattle.machine.specs.Table.{Table, contacts, stateAt, withContact, origin, resting, active, one, countActive}
 use Rattle.machine.specs.Rules.{View, Rules}
 use Rattle.machine.specs.Conforms.{tableAfter, conforms}
-use Rattle.machine.specs.Machine.{Machine, storedBytes, cancelFlags, cancelBytes, cancelsFrom, cancels, opening, Verdict, injected, ignored, cancelled, verdict, machineAfter, stepMachine, stepBytes, Counts, countOf, plus, none, runMachine, runBytes, runCounts, dismissTable, dismissBytes}
-use Rattle.machine.proofs.Table.{Whole, with-whole, resting-whole, count-step, count-all}
-use Rattle.machine.proofs.Conforms.{after-whole}
+use Rattle.machine.specs.Machine.{Machine, storedBytes, cancelFlags, cancelBytes, cancelsFrom, cancels, opening, Verdict, injected, ignored, cancelled, verdict, stepMachine, stepBytes, Counts, countOf, plus, none, runMachine, runBytes, runCounts, dismissTable, dismissBytes}
+use Rattle.machine.proofs.Table.{count-step, count-all}
 
 -- ---- counts
 
@@ -110,21 +108,6 @@ module _ {C : Type 0} (view : View C) where
     counts-total m [] = refl
     counts-total m (f ∷ fs) = omega (arith, one-frame (verdict view rules m (f .contacts)), counts-total (stepMachine view rules m f) fs)
 
-    -- no contact is lost
-    after-verdict : (m : Machine) (cs : List C) (v : Verdict) → Whole (m .table) → Whole (machineAfter view v (rules .next) m cs .table)
-    after-verdict m cs injected w = after-whole view (rules .next) (m .table) cs w
-    after-verdict m cs ignored w = w
-    after-verdict m cs cancelled w = resting-whole
-
-    pub step-whole : (m : Machine) (f : Frame C) → Whole (m .table) → Whole (stepMachine view rules m f .table)
-    unfolding stepMachine
-    step-whole m f w = after-verdict m (f .contacts) (verdict view rules m (f .contacts)) w
-
-    pub run-whole : (m : Machine) (fs : List (Frame C)) → Whole (m .table) → Whole (runMachine view rules m fs .table)
-    unfolding runMachine
-    run-whole m [] w = w
-    run-whole m (f ∷ fs) w = run-whole (stepMachine view rules m f) fs (step-whole m f w)
-
   -- ---- cancelling
 
   module _ (t : Table) where
@@ -191,11 +174,3 @@ module _ (t : Table) (id : ℕ) where
   pub keep-table : (stateAt t id ≡ hovering → ⊥) → dismissTable t id ≡ t
   unfolding dismissTable
   keep-table h = rw (ne-eqb (stateAt t id) hovering h)
-
-  pub dismiss-whole : Whole t → Whole (dismissTable t id)
-  unfolding dismissTable
-  dismiss-whole w = go (eqb (stateAt t id) hovering)
-    where
-      go : (b : Bool) → Whole (cond b (withContact t id out origin) t)
-      go true = with-whole t id out origin w
-      go false = w

@@ -1,4 +1,5 @@
 pub mod Laws
 pub mod Passes
+pub mod Contacts
 pub mod Finding
 pub mod Unique

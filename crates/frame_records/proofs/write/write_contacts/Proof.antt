@@ -2,52 +2,27 @@
 -- output that the whole does.
 -- Assumes nothing.
 use borrow.Author.Needs.{needs}
-use Prim.Native.Nat.{ℕ, _+_, _-_, _*_, _≤_}
-use mathlib.Core.Path.{_≡_, refl, sym, _∙_}
-use mathlib.Core.List.{List, [], append-nil}
+use Prim.Native.Nat.{_^_, _<_}
 use native.Mathlib.Omega.{arith}
-use lib.ListN.{length, length-drop}
-use borrow.Rule.Slice.PartMut.{midOf}
-use Rattle.slices.proofs.Laws.{writes-done, Done}
-use Rattle.slices.proofs.Tails.{tail-is, wrote}
-use Rattle.formats.specs.Format.{got, times}
-use Rattle.formats.proofs.Steps.{step, stop, Stepped}
-use Rattle.fields.specs.Integers.{strict}
-use Rattle.house.specs.Layout.{contactBytes, touched}
-use Rattle.house.specs.declared.Contact.{Contact}
-use Rattle.house.proofs.Round.{length-contact}
-use Rattle.framing.specs.Frame.{contactsBytes}
-use Rattle.touch.specs.Touch.{contact, touchRecord}
-use Rattle.frame_records.proofs.Laws.{contacts-none, contacts-cons, length-read}
-use Rattle.frame_records.proofs.Passes.{Ahead, ahead-first, ahead-bad, ahead-next, ahead-done}
+use lib.ListN.{length}
+use Rattle.frame_records.proofs.Contacts.{Laying, laying-first, laying-one, laying-none, laying-next, laying-bad, laying-done}
 use Rattle.frame_records.proofs.write.write_contacts.Statement.{statement}
 use Rattle.frame_records.proofs.write.write_contacts.Tie as tie
 
 abbrev Inv-loop : tie.InvT-loop
-Inv-loop out₀ rest n pos₀ at₀ left₀ out pos at left =
-    (at ≤ length rest)
-    × (pos + 21 * left ≤ length out)
-    × (length out ≡ length out₀)
-    × ((cs : List Contact) (t : List ℕ) → times n (contact strict) .read rest ≡ got cs t → Ahead (λ b. contact strict) (contactsBytes touchRecord) rest out₀ cs t out pos at left)
+Inv-loop out₀ rest n pos₀ at₀ left₀ out pos at left = Laying n rest out₀ out pos at left
 
 abbrev μ-loop : tie.MeasureT-loop
 μ-loop out₀ rest n pos₀ at₀ left₀ out pos at left = left
 
 loop-holds : tie.Need-loop-holds Inv-loop μ-loop
-loop-holds c = (
-  omega arith,
-  omega arith,
-  refl,
-  λ cs t e.
-      let n = length-read _ _ cs t e in
-      ahead-first (λ b. contact strict) (contactsBytes touchRecord) _ _ cs t _ e (omega arith),
-)
+loop-holds c = laying-first _ _ _ (omega arith)
 
 sub-read-contact : tie.Need-sub-read-contact Inv-loop μ-loop
-sub-read-contact c = search needs
+sub-read-contact c = c .before .loop .inv .inside
 
 part-read-contact-start : tie.Need-part-read-contact-start Inv-loop μ-loop
-part-read-contact-start c = search needs
+part-read-contact-start c = c .before .loop .inv .inside
 
 part-read-contact-end : tie.Need-part-read-contact-end Inv-loop μ-loop
 part-read-contact-end c = search needs
@@ -62,29 +37,26 @@ enum-told : tie.Need-enum-told Inv-loop μ-loop
 enum-told c = search needs
 
 same-length : tie.Need-same-length Inv-loop μ-loop
-same-length c = search needs
+same-length c = c .before .before .before .before .before .loop .inv .long
 
 returns : tie.Need-returns Inv-loop μ-loop
-returns c cs t e =
+returns c =
     let r = c .before .before in
-    let p = r .before .before .before in
-    let b = stop (contact strict) (p .before .before .before .args .rest .now) (p .loop .at) _ _ (rw (c .enum-told .given .1) at (r .read-contact .ensures)) in
-    ahead-bad (λ b. contact strict) (contactsBytes touchRecord) _ _ cs t _ _ _ _ (p .loop .inv .3 cs t e) _ (r .before .before .loop-test .taken) b
+    let h = r .before .before .before .loop .inv in
+    laying-bad _ _ _ _ _ _ _ h _ (r .before .before .loop-test .taken) (laying-none _ _ _ _ _ _ _ h _ (r .read-contact .ensures) _ (c .enum-told .given .1))
 
--- the contact of this turn
-one : (c : tie.After-known-told Inv-loop μ-loop) →
-    let p = c .before .before .before .before .before .before in
-    Stepped (contact strict) (p .before .before .before .args .rest .now) (p .loop .at) (c .before .got .given .0 .0) (p .loop .at + c .before .got .given .0 .1 .0)
-one c =
-    let r = c .before .before .before in
-    let p = r .before .before .before in
-    step (contact strict) (p .before .before .before .args .rest .now) (p .loop .at) _ _ (p .loop .inv .0) (rw (c .before .got .given .1) at (r .read-contact .ensures))
+short : (c : tie.After-shared-slice-known Inv-loop μ-loop) → length (c .before .before .args .rest .now) < 2 ^ 64
+short c = omega arith
+
+-- where the turn of a contact that was read began
+abbrev begun : tie.After-known-told Inv-loop μ-loop → tie.At-loop Inv-loop μ-loop
+begun c = c .before .before .before .before .before .before
 
 sub-write-contact : tie.Need-sub-write-contact Inv-loop μ-loop
-sub-write-contact c = search needs
+sub-write-contact c = omega (arith, begun c .loop .inv .room)
 
 part-write-contact-start : tie.Need-part-write-contact-start Inv-loop μ-loop
-part-write-contact-start c = search needs
+part-write-contact-start c = omega (arith, begun c .loop .inv .room)
 
 part-write-contact-end : tie.Need-part-write-contact-end Inv-loop μ-loop
 part-write-contact-end c = search needs
@@ -92,21 +64,13 @@ part-write-contact-end c = search needs
 write-contact-requires : tie.Need-write-contact-requires Inv-loop μ-loop
 write-contact-requires c κs = search needs
 
--- its record is written through the lent tail
-laid-one : (c : tie.After-write-contact Inv-loop μ-loop) →
-    let g = c .before .before in
-    let p = g .before .before .before .before .before .before in
-    Done (contactBytes touched (g .before .got .given .0 .0)) (c .write-contact .result) (midOf (p .loop .pos) (length (p .loop .out) - p .loop .pos) (p .loop .out)) (c .write-contact .last .0)
-laid-one c =
-    let g = c .before .before in
-    let p = g .before .before .before .before .before .before in
-    writes-done _ _ _ _ (c .write-contact .ensures) (rw (length-contact, tail-is (p .loop .out) (p .loop .pos), length-drop) (omega arith))
-
 add-pos : tie.Need-add-pos Inv-loop μ-loop
-add-pos c = omega arith
+add-pos c = omega (arith, begun (c .before .before .before .before) .loop .inv .room)
 
 add-at : tie.Need-add-at Inv-loop μ-loop
-add-at c = omega (arith, one (c .before .before .before .before) .ends)
+add-at c =
+    let g = c .before .before .before .before in
+    omega (arith, short (begun g .before), laying-one _ _ _ _ _ _ _ (begun g .loop .inv) _ (g .before .before .before .read-contact .ensures) _ _ (g .before .got .given .1) .ends)
 
 sub-left : tie.Need-sub-left Inv-loop μ-loop
 sub-left c = search needs
@@ -119,24 +83,14 @@ loop-again c =
     let w = c .before .before in
     let g = w .before .before in
     let r = g .before .before .before in
-    let p = r .before .before .before in
-    let x = g .before .got .given .0 .0 in
-    let n = length-contact touched x in
-    let d = laid-one w in
-    let v = wrote (p .loop .out) (p .loop .pos) 21 _ (contactBytes touched x) [] (d .output) (sym n) (rw (append-nil, n) (omega arith)) in (
-      one g .ends,
-      omega arith,
-      v .long ∙ p .loop .inv .2,
-      λ cs t e. ahead-next (λ b. contact strict) (contactsBytes touchRecord) _ _ cs t _ _ _ _ (p .loop .inv .3 cs t e) x _ _ (contactBytes touched x) _ (r .before .before .loop-test .taken) (one g .reads) (contacts-cons x) (d .output) (sym n),
-    )
+    let h = begun g .loop .inv in
+    laying-next _ _ _ _ _ _ _ h _ _ _ _ (r .before .before .loop-test .taken) (laying-one _ _ _ _ _ _ _ h _ (r .read-contact .ensures) _ _ (g .before .got .given .1)) (w .write-contact .ensures)
 
 same-length-2 : tie.Need-same-length-2 Inv-loop μ-loop
-same-length-2 c = c .before .loop .inv .2
+same-length-2 c = c .before .loop .inv .long
 
 returns-2 : tie.Need-returns-2 Inv-loop μ-loop
-returns-2 c cs t e =
-    let p = c .before in
-    ahead-done (λ b. contact strict) (contactsBytes touchRecord) _ _ cs t _ _ _ _ (p .loop .inv .3 cs t e) (c .loop-test .left) contacts-none
+returns-2 c = laying-done _ _ _ _ _ _ _ (c .before .loop .inv) (c .loop-test .left)
 
 pub write-contacts-spec : {M : Type 1} → statement M
 write-contacts-spec =

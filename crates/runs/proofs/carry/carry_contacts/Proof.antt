@@ -2,26 +2,16 @@
 -- and what is laid of them is what it is of all.
 -- Assumes nothing.
 use borrow.Author.Needs.{needs}
-use Prim.Native.Nat.{ℕ, _+_, _-_, _*_, _^_, _≤_, _<_}
+use Prim.Native.Nat.{_^_, _<_}
 use mathlib.Core.Path.{_≡_, refl, sym, ap, _∙_}
 use mathlib.Core.Bool.{false}
-use mathlib.Core.List.{List, [], append-nil}
 use native.Mathlib.Omega.{arith}
-use lib.ListN.{length, drop, length-drop}
-use borrow.Rule.Slice.PartMut.{midOf}
-use Rattle.slices.proofs.Laws.{writes-done, Done}
-use Rattle.slices.proofs.Tails.{tail-is, wrote}
-use Rattle.formats.specs.Format.{got}
+use lib.ListN.{length, drop}
 use Rattle.formats.specs.Answer.{skipped}
-use Rattle.formats.proofs.Steps.{step, stop, Stepped, series-end, series-got, series-bad}
+use Rattle.formats.proofs.Steps.{series-end, series-got, series-bad}
 use Rattle.fields.specs.Integers.{strict}
-use Rattle.house.specs.Layout.{contactBytes, touched}
-use Rattle.house.specs.declared.Contact.{Contact}
-use Rattle.house.proofs.Round.{length-contact}
-use Rattle.framing.specs.Frame.{contactsBytes}
-use Rattle.touch.specs.Touch.{contact, touchRecord}
-use Rattle.frame_records.proofs.Laws.{contacts-none, contacts-cons, length-read}
-use Rattle.frame_records.proofs.Passes.{Ahead, ahead-first, ahead-bad, ahead-next, ahead-done}
+use Rattle.touch.specs.Touch.{contact}
+use Rattle.frame_records.proofs.Contacts.{Laying, laying-first, laying-one, laying-none, laying-next, laying-bad, laying-done}
 use Rattle.contacts.specs.Ruling.{contactsOf, tableFrom}
 use Rattle.moves.specs.Moves.{afterRead}
 use Rattle.moves.proofs.Moving.{read-end, read-bad, read-on, ends-got, ends-bad}
@@ -30,55 +20,28 @@ use Rattle.runs.proofs.carry.carry_contacts.Tie as tie
 
 abbrev Inv-loop : tie.InvT-loop
 Inv-loop out₀ rest n states₀ xs₀ ys₀ pos₀ at₀ left₀ out states xs ys pos at left =
-    (at ≤ length rest)
-    × (pos + 21 * left ≤ length out)
-    × (length out ≡ length out₀)
+    Laying n rest out₀ out pos at left
     × (skipped (contactsOf left (drop at rest)) ≡ skipped (contactsOf n rest))
     × (afterRead left (tableFrom states xs ys) (drop at rest) ≡ afterRead n (tableFrom states₀ xs₀ ys₀) rest)
-    × ((cs : List Contact) (t : List ℕ) → contactsOf n rest ≡ got cs t → Ahead (λ b. contact strict) (contactsBytes touchRecord) rest out₀ cs t out pos at left)
 
 abbrev μ-loop : tie.MeasureT-loop
 μ-loop out₀ rest n states₀ xs₀ ys₀ pos₀ at₀ left₀ out states xs ys pos at left = left
 
--- the contact of this turn
-one : (c : tie.After-known-told Inv-loop μ-loop) →
-    let p = c .before .before .before .before .before .before in
-    Stepped (contact strict) (p .before .before .before .args .rest .now) (p .loop .at) (c .before .got .given .0 .0) (p .loop .at + c .before .got .given .0 .1 .0)
-one c =
-    let r = c .before .before .before in
-    let p = r .before .before .before in
-    step (contact strict) (p .before .before .before .args .rest .now) (p .loop .at) _ _ (p .loop .inv .0) (rw (c .before .got .given .1) at (r .read-contact .ensures))
-
 short : (c : tie.After-shared-slice-known Inv-loop μ-loop) → length (c .before .before .args .rest .now) < 2 ^ 64
 short c = omega arith
 
--- its record is written through the lent tail
-laid-one : (c : tie.After-write-contact Inv-loop μ-loop) →
-    let g = c .before .before in
-    let p = g .before .before .before .before .before .before in
-    Done (contactBytes touched (g .before .got .given .0 .0)) (c .write-contact .result) (midOf (p .loop .pos) (length (p .loop .out) - p .loop .pos) (p .loop .out)) (c .write-contact .last .0)
-laid-one c =
-    let g = c .before .before in
-    let p = g .before .before .before .before .before .before in
-    writes-done _ _ _ _ (c .write-contact .ensures) (rw (length-contact, tail-is (p .loop .out) (p .loop .pos), length-drop) (omega arith))
+-- where the turn of a contact that was read began
+abbrev begun : tie.After-known-told Inv-loop μ-loop → tie.At-loop Inv-loop μ-loop
+begun c = c .before .before .before .before .before .before
 
 loop-holds : tie.Need-loop-holds Inv-loop μ-loop
-loop-holds c = (
-  omega arith,
-  omega arith,
-  refl,
-  refl,
-  refl,
-  λ cs t e.
-      let n = length-read _ _ cs t e in
-      ahead-first (λ b. contact strict) (contactsBytes touchRecord) _ _ cs t _ e (omega arith),
-)
+loop-holds c = (laying-first _ _ _ (omega arith), refl, refl)
 
 sub-read-contact : tie.Need-sub-read-contact Inv-loop μ-loop
-sub-read-contact c = search needs
+sub-read-contact c = c .before .loop .inv .0 .inside
 
 part-read-contact-start : tie.Need-part-read-contact-start Inv-loop μ-loop
-part-read-contact-start c = search needs
+part-read-contact-start c = c .before .loop .inv .0 .inside
 
 part-read-contact-end : tie.Need-part-read-contact-end Inv-loop μ-loop
 part-read-contact-end c = search needs
@@ -93,7 +56,7 @@ enum-told : tie.Need-enum-told Inv-loop μ-loop
 enum-told c = search needs
 
 same-length : tie.Need-same-length Inv-loop μ-loop
-same-length c = search needs
+same-length c = c .before .before .before .before .before .loop .inv .0 .long
 
 returns : tie.Need-returns Inv-loop μ-loop
 returns c =
@@ -101,20 +64,20 @@ returns c =
     let p = r .before .before .before in
     let a = p .before .before .before .args in
     let h = r .before .before .loop-test .taken in
-    let b = stop (contact strict) (a .rest .now) (p .loop .at) _ _ (rw (c .enum-told .given .1) at (r .read-contact .ensures)) in
+    let b = laying-none _ _ _ _ _ _ _ (p .loop .inv .0) _ (r .read-contact .ensures) _ (c .enum-told .given .1) in
     record {
       table = record {
-        table = sym (read-bad _ (p .loop .left) _ _ h b) ∙ p .loop .inv .4;
-        passed = ends-bad (a .n) (a .rest .now) _ (sym (ap skipped (series-bad (λ b. contact strict .read) false (p .loop .left) _ _ h b)) ∙ p .loop .inv .3);
+        table = sym (read-bad _ (p .loop .left) _ _ h b) ∙ p .loop .inv .2;
+        passed = ends-bad (a .n) (a .rest .now) _ (sym (ap skipped (series-bad (λ b. contact strict .read) false (p .loop .left) _ _ h b)) ∙ p .loop .inv .1);
       };
-      output = λ cs t e. ahead-bad (λ b. contact strict) (contactsBytes touchRecord) _ _ cs t _ _ _ _ (p .loop .inv .5 cs t e) _ h b;
+      output = laying-bad _ _ _ _ _ _ _ (p .loop .inv .0) _ h b;
     }
 
 sub-write-contact : tie.Need-sub-write-contact Inv-loop μ-loop
-sub-write-contact c = search needs
+sub-write-contact c = omega (arith, begun c .loop .inv .0 .room)
 
 part-write-contact-start : tie.Need-part-write-contact-start Inv-loop μ-loop
-part-write-contact-start c = search needs
+part-write-contact-start c = omega (arith, begun c .loop .inv .0 .room)
 
 part-write-contact-end : tie.Need-part-write-contact-end Inv-loop μ-loop
 part-write-contact-end c = search needs
@@ -126,12 +89,13 @@ move-contact-requires : tie.Need-move-contact-requires Inv-loop μ-loop
 move-contact-requires c κs = search needs
 
 add-pos : tie.Need-add-pos Inv-loop μ-loop
-add-pos c = omega arith
+add-pos c = omega (arith, begun (c .before .before .before .before .before .before .before .before) .loop .inv .0 .room)
 
 add-at : tie.Need-add-at Inv-loop μ-loop
 add-at c =
     let g = c .before .before .before .before .before .before .before .before in
-    omega (arith, one g .ends, short (g .before .before .before .before .before .before .before))
+    let p = begun g in
+    omega (arith, short (p .before), laying-one _ _ _ _ _ _ _ (p .loop .inv .0) _ (g .before .before .before .read-contact .ensures) _ _ (g .before .got .given .1) .ends)
 
 sub-left : tie.Need-sub-left Inv-loop μ-loop
 sub-left c = search needs
@@ -144,23 +108,16 @@ loop-again c =
     let w = c .before .before .before .before .before .before in
     let g = w .before .before in
     let r = g .before .before .before in
-    let p = r .before .before .before in
-    let a = p .before .before .before .args in
-    let x = g .before .got .given .0 .0 in
-    let n = length-contact touched x in
-    let d = laid-one w in
+    let p = begun g in
     let h = r .before .before .loop-test .taken in
-    let v = wrote (p .loop .out) (p .loop .pos) 21 _ (contactBytes touched x) [] (d .output) (sym n) (rw (append-nil, n) (omega arith)) in (
-      one g .ends,
-      omega arith,
-      v .long ∙ p .loop .inv .2,
-      sym (series-got (λ b. contact strict .read) false (p .loop .left) _ _ _ h (one g .reads)) ∙ p .loop .inv .3,
-      read-on _ _ (p .loop .left) (p .loop .at) _ (a .rest .now) _ h (one g) (c .move-contact .ensures) ∙ p .loop .inv .4,
-      λ cs t e. ahead-next (λ b. contact strict) (contactsBytes touchRecord) _ _ cs t _ _ _ _ (p .loop .inv .5 cs t e) x _ _ (contactBytes touched x) _ h (one g .reads) (contacts-cons x) (d .output) (sym n),
+    let one = laying-one _ _ _ _ _ _ _ (p .loop .inv .0) _ (r .read-contact .ensures) _ _ (g .before .got .given .1) in (
+      laying-next _ _ _ _ _ _ _ (p .loop .inv .0) _ _ _ _ h one (w .write-contact .ensures),
+      sym (series-got (λ b. contact strict .read) false (p .loop .left) _ _ _ h (one .reads)) ∙ p .loop .inv .1,
+      read-on _ _ (p .loop .left) (p .loop .at) _ (p .before .before .before .args .rest .now) _ h one (c .move-contact .ensures) ∙ p .loop .inv .2,
     )
 
 same-length-2 : tie.Need-same-length-2 Inv-loop μ-loop
-same-length-2 c = c .before .loop .inv .2
+same-length-2 c = c .before .loop .inv .0 .long
 
 returns-2 : tie.Need-returns-2 Inv-loop μ-loop
 returns-2 c =
@@ -169,10 +126,10 @@ returns-2 c =
     let h = c .loop-test .left in
     record {
       table = record {
-        table = sym (read-end _ (p .loop .left) _ h) ∙ p .loop .inv .4;
-        passed = ends-got (a .n) (a .rest .now) (p .loop .at) (sym (ap skipped (series-end (λ b. contact strict .read) false (p .loop .left) _ h)) ∙ p .loop .inv .3) (p .loop .inv .0);
+        table = sym (read-end _ (p .loop .left) _ h) ∙ p .loop .inv .2;
+        passed = ends-got (a .n) (a .rest .now) (p .loop .at) (sym (ap skipped (series-end (λ b. contact strict .read) false (p .loop .left) _ h)) ∙ p .loop .inv .1) (p .loop .inv .0 .inside);
       };
-      output = λ cs t e. ahead-done (λ b. contact strict) (contactsBytes touchRecord) _ _ cs t _ _ _ _ (p .loop .inv .5 cs t e) h contacts-none;
+      output = laying-done _ _ _ _ _ _ _ (p .loop .inv .0) h;
     }
 
 pub carry-contacts-spec : {M : Type 1} → statement M

@@ -2,27 +2,29 @@
 -- Assumes nothing.
 use Prim.Native.Nat.{ℕ, zero, suc, _+_, _≤_, _<_}
 use mathlib.Core.Logic.{_↔_}
-use mathlib.Core.Path.{_≡_, refl, sym, _∙_}
+use mathlib.Core.Path.{_≡_, refl, sym, ap, _∙_}
 use mathlib.Core.List.{List, _++_}
 use native.Mathlib.Omega.{arith}
 use lib.Dec.{lit<, lit≤}
 use lib.IntN.{ℤ, pos, negsuc, natAbs}
-use lib.ListN.{length, take, drop, take-append-drop}
+use lib.ListN.{length, take, drop, take-append-drop, length-append}
 use lib.Seq.{drop-append-seam}
 use Rattle.digits.specs.Digits.{Bytes}
 use Rattle.digits.proofs.Laws.{bytes-drop}
 use Rattle.formats.specs.Format.{got, Format}
-use Rattle.formats.proofs.Laws.{Law, Back, Sound, Exact, never}
+use Rattle.formats.proofs.Laws.{Law, Back, Sound, Short, Exact, never}
 use Rattle.integers.specs.Integer.{Reading, value, refused, reading, writing, limit, signs}
 use Rattle.integers.specs.Answer.{minus, signedValue}
 use Rattle.integers.proofs.Laws.{length-and-value, writing-shorter}
 use Rattle.integers.proofs.Signed.{minus-small, signed-again}
 use Rattle.fields.specs.Integers.{Shape, unsigned, signed, gotBy, integer, Integers, integersBy, strict}
 
--- what a reading of integers promises, at whatever lengths: what is written is read back, and the value is in range
+-- what a reading of integers promises, at whatever lengths: what is written is read back, the value is in range, and it is written in no more
+-- bytes
 pub record Reads (rd : ℕ → ℕ → List ℕ → Reading) (k g : ℕ) : Type 0 where
   pub back : (s m : ℕ) (t : List ℕ) → s < signs g → s ≤ m → m < limit k g → rd k g (writing k g s m ++ t) ≡ value s m (length (writing k g s m))
   pub fit : (l : List ℕ) (s m n : ℕ) → Bytes l → rd k g l ≡ value s m n → (s < signs g) × (s ≤ m) × (m < limit k g)
+  pub short : (l : List ℕ) (s m n : ℕ) → Bytes l → rd k g l ≡ value s m n → length (writing k g s m) + length (drop n l) ≤ length l
 
 -- and of the only form
 abbrev pub Strict : (ℕ → ℕ → List ℕ → Reading) → ℕ → ℕ → Type 0
@@ -83,6 +85,17 @@ module _ {A : Type 0} (h : Shape A) (rd : ℕ → ℕ → List ℕ → Reading) 
           let y : drop n l ≡ t = cc in
           (rw (← z, w .size s m (f .0) (f .1)) (f .2), rw y at (bytes-drop n l hl))
 
+  integer-short : Short (integer h rd k g)
+  integer-short l b t hl e = go (rd k g l) refl e
+    where
+      go : (x : Reading) → rd k g l ≡ x → gotBy (h .made) x l ≡ got b t → length (writing k g (h .sign b) (h .size b)) + length t ≤ length l
+      go (refused x) v e = never x b t e
+      go (value s m n) v e =
+          let f = r .fit l s m n hl v in
+          let z : h .made s m ≡ b = cc in
+          let y : drop n l ≡ t = cc in
+          rw (← z, w .sign s m (f .0) (f .1), w .size s m (f .0) (f .1), ← y) (r .short l s m n hl v)
+
   integer-exact : Strict rd k g → Exact (integer h rd k g)
   integer-exact x l b t hl e = go (rd k g l) refl e
     where
@@ -117,7 +130,7 @@ module _ (X : Type 0) (rd : ℕ → ℕ → List ℕ → Reading) (h : (k g : �
   one-law : {A : Type 0} (s : Shape A) (k g : ℕ) → Shaped s g → k ≤ 3 → k + g ≤ 8 → Law X (integer s rd k g)
   one-law s k g v a b =
       let r = h k g a b in
-      record { back = integer-back s rd k g v r; sound = integer-sound s rd k g v r; exact = λ x. integer-exact s rd k g v r (w x k g a b) }
+      record { back = integer-back s rd k g v r; sound = integer-sound s rd k g v r; short = integer-short s rd k g v r; exact = λ x. integer-exact s rd k g v r (w x k g a b) }
 
   pub integers-law : IntegersLaw X (integersBy rd)
   integers-law =
@@ -153,6 +166,7 @@ strict-reads k g hk h =
     record {
       back = v .back;
       fit = λ l s m n hl e. let r = v .range l s m n hl e in (r .sign, r .plain, r .size);
+      short = λ l s m n hl e. rw (← v .exact l s m n hl e) (omega (arith, length-append (take n l) (drop n l), ap length (take-append-drop n l)));
     }
 
 pub strict-law : IntegersLaw (Unit {0}) strict

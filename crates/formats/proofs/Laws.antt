@@ -1,6 +1,6 @@
 -- The laws of the formats, each proved once for a combinator.
 -- Assumes nothing.
-use Prim.Native.Nat.{ℕ, zero, suc, _+_, _-_, _*_, _/_, _^_, _<_}
+use Prim.Native.Nat.{ℕ, zero, suc, _+_, _-_, _*_, _/_, _^_, _≤_, _<_}
 use mathlib.Core.Path.{_≡_, refl, sym, ap, _∙_}
 use mathlib.Core.Bool.{Bool, true, false, cond}
 use mathlib.Core.List.{List, [], _∷_, _++_, append-assoc, append-nil}
@@ -9,7 +9,7 @@ use native.Mathlib.Numerals.{sub-one}
 use native.Mathlib.Omega.{arith}
 use lib.Arith.{digits-div, digits-mod, digits-lt}
 use lib.Dec.{lit<}
-use lib.ListN.{length}
+use lib.ListN.{length, length-append}
 use Rattle.paper.specs.Refusals.{truncated}
 use Rattle.digits.specs.Digits.{Bytes}
 use Rattle.formats.specs.Format.{Got, got, bad, andThen, Format, done, field, such, when, series, readSeries, writeSeries, Each, times, ended, whole, readByte, byte, readLittle, writeLittle, little}
@@ -25,6 +25,13 @@ Sound {A} f = (l : List ℕ) (b : A) (t : List ℕ) → Bytes l → f .read l �
 -- what is read is written back to the same bytes
 abbrev pub Exact : {A : Type 0} → Format A → Type 0
 Exact {A} f = (l : List ℕ) (b : A) (t : List ℕ) → Bytes l → f .read l ≡ got b t → l ≡ f .write b ++ t
+
+-- what is read is written in no more bytes
+abbrev pub Short : {A : Type 0} → Format A → Type 0
+Short {A} f = (l : List ℕ) (b : A) (t : List ℕ) → Bytes l → f .read l ≡ got b t → length (f .write b) + length t ≤ length l
+
+pub exact-short : {A : Type 0} (f : Format A) → Exact f → Short f
+exact-short f xf l b t hl e = omega (arith, ap length (xf l b t hl e), length-append (f .write b) t)
 
 -- p finds the field a in what g a reads
 abbrev pub Finds : {A B : Type 0} → (B → A) → (A → Format B) → Type 0
@@ -73,6 +80,18 @@ module _ {A B : Type 0} (f : Format A) (p : B → A) (g : A → Format B) where
           let y : u ≡ g a .write b ++ t = xg a u b t (s .1) e in
           rw (q, append-assoc, ← y) v
 
+  pub field-short : Sound f → ((a : A) → Sound (g a)) → Finds p g → Short f → ((a : A) → Short (g a)) → Short (field f p g)
+  field-short hf hg find sf sg l b t hl e = go (f .read l) refl e
+    where
+      go : (x : Got A) → f .read l ≡ x → andThen x (λ a t. g a .read t) ≡ got b t → length (f .write (p b) ++ g (p b) .write b) + length t ≤ length l
+      go (bad x) w e = never x b t e
+      go (got a u) w e =
+          let s = hf l a u hl w in
+          let q : p b ≡ a = find a b (hg a u b t (s .1) e .0) in
+          let v = sf l a u hl w in
+          let y = sg a u b t (s .1) e in
+          rw (q, length-append) (omega arith)
+
 module _ {A : Type 0} (f : Format A) (q : A → Bool) (e : ℕ) where
   pub such-back : Back f → Back (such f q e)
   such-back hf b t h = rw (hf b t (h .0), h .1)
@@ -97,6 +116,9 @@ module _ {A : Type 0} (f : Format A) (q : A → Bool) (e : ℕ) where
 
   pub such-exact : Exact f → Exact (such f q e)
   such-exact xf l b t hl h = xf l b t hl (such-got l b t h .0)
+
+  pub such-short : Short f → Short (such f q e)
+  such-short sf l b t hl h = sf l b t hl (such-got l b t h .0)
 
 module _ {A : Type 0} (f : Format A) (z : A) where
   pub when-back : (c : Bool) → Back f → Back (when c f z)
@@ -183,6 +205,18 @@ module _ {A : Type 0} (f : Bool → Format A) where
       let i = series-exact hf xf false n (m .after) (m .rest) t (hf first l (m .head) (m .after) hl (m .one) .1) (m .others) in
       rw (m .all, append-assoc, ← i) (xf first l (m .head) (m .after) hl (m .one))
 
+  pub series-short : ((b : Bool) → Sound (f b)) → ((b : Bool) → Short (f b)) → (first : Bool) (n : ℕ) → Short (series f first n)
+  unfolding readSeries writeSeries
+  series-short hf sf first zero l s t hl h =
+      let w : l ≡ t = cc in
+      let z : s ≡ [] = cc in
+      rw (z, w) (omega arith)
+  series-short hf sf first (suc n) l s t hl h =
+      let m = more-got first n l s t h in
+      let i = series-short hf sf false n (m .after) (m .rest) t (hf first l (m .head) (m .after) hl (m .one) .1) (m .others) in
+      let a = sf first l (m .head) (m .after) hl (m .one) in
+      rw (m .all, length-append) (omega arith)
+
 -- the next of a series that is not at its end
 pub next-got : {A : Type 0} (f : Bool → Format A) (first : Bool) (k : ℕ) (l : List ℕ) (s : List A) (t : List ℕ) → 0 < k → readSeries (λ b. f b .read) first k l ≡ got s t → More f first (k - 1) l s t
 next-got f first zero l s t h e = absurd (omega arith)
@@ -203,6 +237,18 @@ module _ {A : Type 0} (f : Format A) (e : ℕ) where
       go (got a (y ∷ u)) w h = never e b t h
       go (got a []) w h = let z : a ≡ b = cc in (rw (z, append-nil) at (xf l a [] hl w))
 
+  pub whole-short : Short f → (l : List ℕ) (b : A) (t : List ℕ) → Bytes l → whole f e l ≡ got b t → length (f .write b) ≤ length l
+  unfolding ended
+  whole-short sf l b t hl h = go (f .read l) refl h
+    where
+      go : (x : Got A) → f .read l ≡ x → andThen x (ended e) ≡ got b t → length (f .write b) ≤ length l
+      go (bad x) w h = never x b t h
+      go (got a (y ∷ u)) w h = never e b t h
+      go (got a []) w h =
+          let z : a ≡ b = cc in
+          let s = sf l a [] hl w in
+          rw (← z) (omega arith)
+
   pub whole-sound : Sound f → (l : List ℕ) (b : A) (t : List ℕ) → Bytes l → whole f e l ≡ got b t → f .Holds b
   unfolding ended
   whole-sound hf l b t hl h = go (f .read l) refl h
@@ -212,26 +258,28 @@ module _ {A : Type 0} (f : Format A) (e : ℕ) where
       go (got a (y ∷ u)) w h = never e b t h
       go (got a []) w h = let z : a ≡ b = cc in (rw z at (hf l a [] hl w .0))
 
--- the three together; the last where X holds (X is what strictness asks)
+-- the four together; the last where X holds (X is what strictness asks)
 pub record Law (X : Type 0) {A : Type 0} (f : Format A) : Type 0 where
   pub back : Back f
   pub sound : Sound f
+  pub short : Short f
   pub exact : X → Exact f
 
 module _ {X : Type 0} where
   pub done-law : {A : Type 0} (a : A) → Law X (done a)
-  done-law a = record { back = done-back a; sound = done-sound a; exact = λ x. done-exact a }
+  done-law a = record { back = done-back a; sound = done-sound a; short = exact-short (done a) (done-exact a); exact = λ x. done-exact a }
 
   pub field-law : {A B : Type 0} (f : Format A) (p : B → A) (g : A → Format B) → Law X f → Finds p g → ((a : A) → Law X (g a)) → Law X (field f p g)
   field-law f p g h find k =
       record {
         back = field-back f p g (h .back) (λ a. k a .back);
         sound = field-sound f p g (h .sound) (λ a. k a .sound) find;
+        short = field-short f p g (h .sound) (λ a. k a .sound) find (h .short) (λ a. k a .short);
         exact = λ x. field-exact f p g (h .sound) (λ a. k a .sound) find (h .exact x) (λ a. k a .exact x);
       }
 
   pub such-law : {A : Type 0} (f : Format A) (q : A → Bool) (e : ℕ) → Law X f → Law X (such f q e)
-  such-law f q e h = record { back = such-back f q e (h .back); sound = such-sound f q e (h .sound); exact = λ x. such-exact f q e (h .exact x) }
+  such-law f q e h = record { back = such-back f q e (h .back); sound = such-sound f q e (h .sound); short = such-short f q e (h .short); exact = λ x. such-exact f q e (h .exact x) }
 
   pub when-law : {A : Type 0} (f : Format A) (z : A) (c : Bool) → Law X f → Law X (when c f z)
   when-law f z true h = h
@@ -242,6 +290,7 @@ module _ {X : Type 0} where
       record {
         back = series-back f (λ b. h b .back) first n;
         sound = series-sound f (λ b. h b .sound) first n;
+        short = series-short f (λ b. h b .sound) (λ b. h b .short) first n;
         exact = λ x. series-exact f (λ b. h b .sound) (λ b. h b .exact x) first n;
       }
 
@@ -269,7 +318,7 @@ byte-exact [] b t hl e = never truncated b t e
 byte-exact (x ∷ l) b t hl e = cc
 
 pub byte-law : {X : Type 0} → Law X byte
-byte-law = record { back = byte-back; sound = byte-sound; exact = λ x. byte-exact }
+byte-law = record { back = byte-back; sound = byte-sound; short = exact-short byte byte-exact; exact = λ x. byte-exact }
 
 -- one byte more: what is read is a byte and, of the bytes after it, the number above it
 pub record Above (n : ℕ) (l : List ℕ) (v : ℕ) (t : List ℕ) : Type 0 where
@@ -326,7 +375,7 @@ little-exact (suc n) l v t hl h =
     little-again n l v t (a .low) (a .after) (a .high) (a .front) (a .all) (hm zero) i
 
 pub little-law : {X : Type 0} (n : ℕ) → Law X (little n)
-little-law n = record { back = little-back n; sound = little-sound n; exact = λ x. little-exact n }
+little-law n = record { back = little-back n; sound = little-sound n; short = exact-short (little n) (little-exact n); exact = λ x. little-exact n }
 
 -- ---- what follows for any lawful format
 

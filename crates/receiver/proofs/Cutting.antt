@@ -1,7 +1,7 @@
 -- The frames from one on, of a message that is read, are a message too: the rested receiver can be given it.
 -- Assumes nothing.
 use Prim.Native.Nat.{ℕ, _+_, _≤_}
-use mathlib.Core.Path.{_≡_, refl, sym, ap}
+use mathlib.Core.Path.{_≡_, refl}
 use mathlib.Core.Bool.{Bool, true, false, cond}
 use mathlib.Core.List.{List, [], _∷_, _++_}
 use native.Mathlib.Omega.{arith}
@@ -12,7 +12,7 @@ use Rattle.paper.specs.declared.Milliseconds.{Milliseconds}
 use Rattle.digits.specs.Digits.{Bytes}
 use Rattle.digits.proofs.Laws.{bytes-drop}
 use Rattle.formats.specs.Format.{Got, got, bad, andThen}
-use Rattle.formats.proofs.Laws.{never, whole-sound, whole-exact}
+use Rattle.formats.proofs.Laws.{never, whole-sound, whole-short}
 use Rattle.fields.specs.Integers.{strict}
 use Rattle.fields.proofs.Laws.{strict-counts}
 use Rattle.messages.specs.Header.{headerBytes, mostBytes, oneOf, headed, touch, dismiss}
@@ -71,8 +71,7 @@ rest-of-message r l hl time fs gs e =
     let f = format.touch strict b in
     let law = strict-touch-law b in
     let h = whole-sound f trailing (law .sound) (drop headerBytes l) m [] (bytes-drop headerBytes l hl) k in
-    let x = whole-exact f trailing (law .exact tt) (drop headerBytes l) m [] (bytes-drop headerBytes l hl) k in
+    let y = whole-short f trailing (law .short) (drop headerBytes l) m [] (bytes-drop headerBytes l hl) k in
     let n = touch-long r l m [] e in
     let w = part-shorter strict touchLimits (contact strict) strict-counts time fs gs b h in
-    let y : length (f .write m) ≡ length (drop headerBytes l) = ap length (sym x) in
     rested-reads (r .settings) (record { time = time; frames = gs }) (part-holds strict touchLimits (contact strict) strict-counts time fs gs b h) (omega (arith, length-drop headerBytes l))

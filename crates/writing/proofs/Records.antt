@@ -13,7 +13,7 @@ use Rattle.paper.specs.Refusals.{badRecord}
 use Rattle.digits.specs.Digits.{Bytes}
 use Rattle.digits.proofs.Laws.{bytes-drop}
 use Rattle.formats.specs.Format.{Got, got, bad, andThen, Format, writeSeries, Each}
-use Rattle.formats.proofs.Laws.{Law, never, done-law, field-law, times-law, each-length}
+use Rattle.formats.proofs.Laws.{Exact, exact-short, Law, never, done-law, field-law, times-law, each-length}
 use Rattle.house.specs.Layout.{headBytes, contactBytes, kindOf, headIn, contactOf, recordOf, bytesOf, head, touched}
 use Rattle.house.specs.WellFormed.{wellFormed, kindWell}
 use Rattle.house.specs.declared.Head.{Head}
@@ -57,6 +57,12 @@ head-again : (l : List ℕ) → Stands head l → Bytes l → headBytes (headIn 
 unfolding bytesOf
 head-again l s b = sym (ap bytesOf (record-head l (s .long) (s .kind))) ∙ bytes-of-record l (s .well) b
 
+head-exact : Exact headRecord
+head-exact l h t b e =
+    let p = passed (stands head l) (headIn (take 21 l)) h (drop 21 l) t e in
+    let a = head-again l (stood head l (p .0)) b in
+    rw (← p .1, ← p .2, a) (sym (take-append-drop 21 l))
+
 pub head-law : Law (Unit {0}) headRecord
 head-law =
     record {
@@ -67,10 +73,8 @@ head-law =
       sound = λ l h t b e.
           let p = passed (stands head l) (headIn (take 21 l)) h (drop 21 l) t e in
           (rw (p .1) at (head-fits (take 21 l)), rw (p .2) at (bytes-drop 21 l b));
-      exact = λ x l h t b e.
-          let p = passed (stands head l) (headIn (take 21 l)) h (drop 21 l) t e in
-          let a = head-again l (stood head l (p .0)) b in
-          rw (← p .1, ← p .2, a) (sym (take-append-drop 21 l));
+      short = exact-short headRecord head-exact;
+      exact = λ x. head-exact;
     }
 
 -- a contact that stands at the front, read
@@ -87,6 +91,12 @@ contact-again l s b = sym (ap bytesOf (contact-is l s)) ∙ bytes-of-record l (s
 kind-touched : (c : Contact) → kindWell touched c ≡ true
 unfolding kindWell
 kind-touched c = refl
+
+contact-exact : Exact contactRecord
+contact-exact l c t b e =
+    let p = passed (stands touched l) (contactOf (take 21 l)) c (drop 21 l) t e in
+    let a = contact-again l (stood touched l (p .0)) b in
+    rw (← p .1, ← p .2, a) (sym (take-append-drop 21 l))
 
 pub contact-law : Law (Unit {0}) contactRecord
 contact-law =
@@ -106,10 +116,8 @@ contact-law =
           let s = stood touched l (p .0) in
           let w = well.all-split _ _ (sym (well-contact l (s .long) (no-head l s)) ∙ s .well) .1 in
           ((rw (p .1) at (contact-fits (take 21 l)), rw (p .1) at (well.all-split _ _ w .0)), rw (p .2) at (bytes-drop 21 l b));
-      exact = λ x l c t b e.
-          let p = passed (stands touched l) (contactOf (take 21 l)) c (drop 21 l) t e in
-          let a = contact-again l (stood touched l (p .0)) b in
-          rw (← p .1, ← p .2, a) (sym (take-append-drop 21 l));
+      short = exact-short contactRecord contact-exact;
+      exact = λ x. contact-exact;
     }
 
 -- ---- a frame

@@ -12,8 +12,8 @@ use Rattle.digits.specs.Digits.{Bytes}
 use Rattle.formats.specs.Format.{Got, got, bad, andThen, readSeries, Each}
 use Rattle.formats.proofs.Laws.{times-law}
 use Rattle.formats.proofs.Steps.{Stepped, series-end, series-bad}
-use Rattle.fields.specs.Integers.{strict}
-use Rattle.fields.proofs.Laws.{strict-law}
+use Rattle.fields.specs.Integers.{taken}
+use Rattle.fields.proofs.Laws.{taken-law}
 use Rattle.house.specs.declared.Contact.{Contact}
 use Rattle.touch.specs.Touch.{contact}
 use Rattle.touch.proofs.Laws.{contact-law}
@@ -26,10 +26,10 @@ use Rattle.machine.proofs.Conforms.{inTable}
 
 module _ {A : Type 0} (z : A) (f : List Contact → A) where
   pub read-end : (k : ℕ) (l : List ℕ) → k ≤ 0 → ofRead z f (contactsOf k l) ≡ f []
-  read-end k l h = ap (ofRead z f) (series-end (λ b. contact strict .read) false k l h)
+  read-end k l h = ap (ofRead z f) (series-end (λ b. contact taken .read) false k l h)
 
-  pub read-bad : (k : ℕ) (l : List ℕ) (e : ℕ) → 0 < k → contact strict .read l ≡ bad e → ofRead z f (contactsOf k l) ≡ z
-  read-bad k l e h w = ap (ofRead z f) (series-bad (λ b. contact strict .read) false k l e h w)
+  pub read-bad : (k : ℕ) (l : List ℕ) (e : ℕ) → 0 < k → contact taken .read l ≡ bad e → ofRead z f (contactsOf k l) ≡ z
+  read-bad k l e h w = ap (ofRead z f) (series-bad (λ b. contact taken .read) false k l e h w)
 
   -- a contact and the others: g says of the others what f says of all
   front : (g : List Contact → A) (c : Contact) → ((cs : List Contact) → f (c ∷ cs) ≡ g cs) → (x : Got (List Contact))
@@ -37,7 +37,7 @@ module _ {A : Type 0} (z : A) (f : List Contact → A) where
   front g c h (got cs t) = h cs
   front g c h (bad e) = refl
 
-  pub read-on : (g : List Contact → A) (k at next : ℕ) (s : List ℕ) (c : Contact) → 0 < k → Stepped (contact strict) s at c next
+  pub read-on : (g : List Contact → A) (k at next : ℕ) (s : List ℕ) (c : Contact) → 0 < k → Stepped (contact taken) s at c next
       → ((cs : List Contact) → f (c ∷ cs) ≡ g cs) → ofRead z f (contactsOf k (drop at s)) ≡ ofRead z g (contactsOf (k - 1) (drop next s))
   unfolding readSeries
   read-on g zero at next s c h w e = absurd (omega arith)
@@ -48,7 +48,7 @@ module _ {A : Type 0} (z : A) (f : List Contact → A) where
   settled (got cs t) = refl
   settled (bad e) = refl
 
-  pub read-off : (k at next : ℕ) (s : List ℕ) (c : Contact) → 0 < k → Stepped (contact strict) s at c next
+  pub read-off : (k at next : ℕ) (s : List ℕ) (c : Contact) → 0 < k → Stepped (contact taken) s at c next
       → ((cs : List Contact) → f (c ∷ cs) ≡ z) → ofRead z f (contactsOf k (drop at s)) ≡ z
   read-off k at next s c h w e = read-on (λ cs. z) k at next s c h w e ∙ settled (contactsOf (k - 1) (drop next s))
 
@@ -61,7 +61,7 @@ read-same z f g h (bad e) = refl
 pub read-opening : (n : ℕ) (l : List ℕ) → 0 < n → ofRead false (opening touchView) (contactsOf n l) ≡ ofRead false (every (isDown touchView)) (contactsOf n l)
 unfolding readSeries opening
 read-opening zero l h = absurd (omega arith)
-read-opening (suc n) l h = go (contact strict .read l)
+read-opening (suc n) l h = go (contact taken .read l)
   where
     on : (c : Contact) (x : Got (List Contact)) → ofRead false (opening touchView) (andThen x (λ cs u. got (c ∷ cs) u)) ≡ ofRead false (every (isDown touchView)) (andThen x (λ cs u. got (c ∷ cs) u))
     on c (got cs t) = refl
@@ -76,7 +76,7 @@ unfolding opening
 read-none n l h = read-end false (opening touchView) n l (omega arith)
 
 -- ids are bytes
-ids-in : (n : ℕ) (cs : List Contact) → Each (λ b. contact strict .Holds) false n cs → every (inTable touchView) cs ≡ true
+ids-in : (n : ℕ) (cs : List Contact) → Each (λ b. contact taken .Holds) false n cs → every (inTable touchView) cs ≡ true
 unfolding Each every contact
 ids-in zero [] h = refl
 ids-in zero (c ∷ cs) h = absurd h
@@ -87,5 +87,5 @@ pub read-ids : (n : ℕ) (l : List ℕ) → Bytes l → ofRead true (every (inTa
 read-ids n l hl = go (contactsOf n l) refl
   where
     go : (x : Got (List Contact)) → contactsOf n l ≡ x → ofRead true (every (inTable touchView)) x ≡ true
-    go (got cs t) w = ids-in n cs (times-law (contact strict) n (contact-law strict strict-law) .sound l cs t hl w .0)
+    go (got cs t) w = ids-in n cs (times-law (contact taken) n (contact-law taken taken-law) .sound l cs t hl w .0)
     go (bad e) w = refl

@@ -7,7 +7,7 @@ use lib.Dec.{leb}
 use lib.IntN.{ℤ}
 use lib.ListN.{length, getD, take}
 use Rattle.formats.specs.Format.{Got, got, bad, times}
-use Rattle.fields.specs.Integers.{strict}
+use Rattle.fields.specs.Integers.{taken}
 use Rattle.states.specs.Table.{out, next}
 use Rattle.house.specs.declared.Contact.{Contact}
 use Rattle.touch.specs.Touch.{contact}
@@ -23,7 +23,7 @@ use Rattle.contacts.specs.declared.Ruling.the-variants as Ruling
 
 -- the n contacts at the front of a list of bytes
 abbrev pub contactsOf : ℕ → List ℕ → Got (List Contact)
-contactsOf n l = times n (contact strict) .read l
+contactsOf n l = times n (contact taken) .read l
 
 -- what is said of the contacts that are read, and z where they are not all there
 abbrev pub ofRead : {A : Type 0} → A → (List Contact → A) → Got (List Contact) → A

@@ -13,7 +13,7 @@ use Rattle.paper.specs.Refusals.{none, noRoom}
 use Rattle.slices.specs.Writing.{Draft, bytes, refuse, given, answered, left, Writes}
 use Rattle.slices.specs.declared.Written.{Written}
 use Rattle.formats.specs.Format.{Got, got, bad}
-use Rattle.fields.specs.Integers.{strict}
+use Rattle.fields.specs.Integers.{taken}
 use Rattle.messages.specs.Header.{headed, readMessage}
 use Rattle.messages.specs.Header as event
 use Rattle.framing.specs.Frame.{framesBytes}
@@ -58,7 +58,7 @@ a-writer's-refusal-changes-nothing d w before after h k = go (given (length befo
 -- a message that is not read is refused with one of 1 to 12
 plainly-tame : (l : List ℕ) → Tame (plainly l)
 unfolding readMessage
-plainly-tame l = and-then (headed (event.touch ∷ []) l) _ (headed-tame _ l) (λ x b. whole-tame (touch strict false) (touch-tame false) b)
+plainly-tame l = and-then (headed (event.touch ∷ []) l) _ (headed-tame _ l) (λ x b. whole-tame (touch taken false) (touch-tame false) b)
 
 -- room asked, a refusal is one of 1 to 13
 given-numbered : (room : ℕ) (x : Got Touch) → Tame x → (n : ℕ) → given room (draftOf x) ≡ refuse n → (1 ≤ n) × (n ≤ 13)

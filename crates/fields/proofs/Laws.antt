@@ -17,7 +17,7 @@ use Rattle.integers.specs.Integer.{Reading, value, refused, reading, writing, l
 use Rattle.integers.specs.Answer.{minus, signedValue}
 use Rattle.integers.proofs.Laws.{length-and-value, writing-shorter}
 use Rattle.integers.proofs.Signed.{minus-small, signed-again}
-use Rattle.fields.specs.Integers.{Shape, unsigned, signed, gotBy, integer, Integers, integersBy, strict}
+use Rattle.fields.specs.Integers.{Shape, unsigned, signed, gotBy, integer, Integers, integersBy, strict, takenReading, taken}
 
 -- what a reading of integers promises, at whatever lengths: what is written is read back, the value is in range, and it is written in no more
 -- bytes
@@ -172,8 +172,13 @@ strict-reads k g hk h =
 pub strict-law : IntegersLaw (Unit {0}) strict
 strict-law = integers-law (Unit {0}) reading strict-reads (λ x k g hk h. length-and-value k g hk h .exact)
 
-pub strict-range : IntegersRange strict
-strict-range = integers-range reading
+-- ---- those that are taken
 
-pub strict-counts : Downward (strict .u2)
-strict-counts = integer-downward reading 1 (lit≤ tt)
+pub taken-law : IntegersLaw (Unit {0}) taken
+taken-law = strict-law
+
+pub taken-range : IntegersRange taken
+taken-range = integers-range takenReading
+
+pub taken-counts : Downward (taken .u2)
+taken-counts = integer-downward takenReading 1 (lit≤ tt)

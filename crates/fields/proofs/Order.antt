@@ -10,7 +10,7 @@ use Rattle.paper.specs.Refusals.{truncated}
 use Rattle.formats.proofs.Order.{behind, Settled, Stays, Ordered}
 use Rattle.integers.specs.Integer.{Reading, value, refused, reading}
 use Rattle.integers.proofs.Laws.{reading-inside, reading-more}
-use Rattle.fields.specs.Integers.{Shape, unsigned, signed, gotBy, integer, Integers, integersBy, strict}
+use Rattle.fields.specs.Integers.{Shape, unsigned, signed, gotBy, integer, Integers, integersBy, strict, takenReading}
 
 -- a reading that is not short of bytes is the same with bytes behind
 abbrev pub Kept : (List ℕ → Reading) → Type 0
@@ -52,3 +52,7 @@ integers-ordered rd h n =
 
 pub strict-ordered : IntegersOrdered strict
 strict-ordered = integers-ordered reading reading-more reading-inside
+
+-- those that are taken end inside what they were given
+pub taken-inside : (k g : ℕ) → Inside (takenReading k g)
+taken-inside = reading-inside

@@ -55,3 +55,10 @@ integersBy rd =
 -- in their only form
 abbrev pub strict : Integers
 strict = integersBy reading
+
+-- how messages are read ("Readers take only that form"), and so the five of their formats
+abbrev pub takenReading : ℕ → ℕ → List ℕ → Reading
+takenReading = reading
+
+abbrev pub taken : Integers
+taken = integersBy takenReading

@@ -13,7 +13,7 @@ use Rattle.slices.proofs.Tails.{tail-is, wrote}
 use Rattle.formats.specs.Format.{got, bad, times}
 use Rattle.formats.specs.Answer.{Answers}
 use Rattle.formats.proofs.Steps.{step, stop, Stepped}
-use Rattle.fields.specs.Integers.{strict}
+use Rattle.fields.specs.Integers.{taken}
 use Rattle.house.specs.Layout.{contactBytes, touched}
 use Rattle.house.specs.declared.Contact.{Contact}
 use Rattle.house.proofs.Round.{length-contact}
@@ -31,7 +31,7 @@ pub record Laying (n : ℕ) (l d out : List ℕ) (pos at left : ℕ) : Type 0 wh
   pub inside : at ≤ length l
   pub room : pos + 21 * left ≤ length out
   pub long : length out ≡ length d
-  pub ahead : (cs : List Contact) (t : List ℕ) → times n (contact strict) .read l ≡ got cs t → Ahead (λ b. contact strict) (contactsBytes touchRecord) l d cs t out pos at left
+  pub ahead : (cs : List Contact) (t : List ℕ) → times n (contact taken) .read l ≡ got cs t → Ahead (λ b. contact taken) (contactsBytes touchRecord) l d cs t out pos at left
 
 module _ (n : ℕ) (l d : List ℕ) where
   pub laying-first : 21 * n ≤ length d → Laying n l d d 0 0 n
@@ -40,21 +40,21 @@ module _ (n : ℕ) (l d : List ℕ) where
         inside = omega arith;
         room = omega arith;
         long = refl;
-        ahead = λ cs t e. let k = length-read n l cs t e in ahead-first (λ b. contact strict) (contactsBytes touchRecord) l d cs t n e (omega arith);
+        ahead = λ cs t e. let k = length-read n l cs t e in ahead-first (λ b. contact taken) (contactsBytes touchRecord) l d cs t n e (omega arith);
       }
 
   module _ (out : List ℕ) (pos at left : ℕ) (h : Laying n l d out pos at left) where
-    module _ (r : ReadContact) (a : let s = take (length l - at) (drop at l) in Answers (contact strict) s (contactGot r s) (contactLength r)) where
+    module _ (r : ReadContact) (a : let s = take (length l - at) (drop at l) in Answers (contact taken) s (contactGot r s) (contactLength r)) where
       -- the contact of a turn
-      pub laying-one : (c : Contact) (k : ℕ) → r ≡ ReadContact.Value c k → Stepped (contact strict) l at c (at + k)
-      laying-one c k e = step (contact strict) l at k c (h .inside) (rw e at a)
+      pub laying-one : (c : Contact) (k : ℕ) → r ≡ ReadContact.Value c k → Stepped (contact taken) l at c (at + k)
+      laying-one c k e = step (contact taken) l at k c (h .inside) (rw e at a)
 
       -- or none
-      pub laying-none : (e : ℕ) → r ≡ ReadContact.Refused e → contact strict .read (drop at l) ≡ bad e
-      laying-none e q = stop (contact strict) l at e _ (rw q at a)
+      pub laying-none : (e : ℕ) → r ≡ ReadContact.Refused e → contact taken .read (drop at l) ≡ bad e
+      laying-none e q = stop (contact taken) l at e _ (rw q at a)
 
     -- its record is written through the tail that was lent, which came back as o
-    pub laying-next : (c : Contact) (next : ℕ) (w : Written) (o : List ℕ) → 0 < left → Stepped (contact strict) l at c next
+    pub laying-next : (c : Contact) (next : ℕ) (w : Written) (o : List ℕ) → 0 < left → Stepped (contact taken) l at c next
         → Writes (bytes (contactBytes touched c)) w (midOf pos (length out - pos) out) o → Laying n l d (putMid pos (length out - pos) out o) (pos + 21) next (left - 1)
     laying-next c next w o k one written =
         let e = length-contact touched c in
@@ -65,12 +65,12 @@ module _ (n : ℕ) (l d : List ℕ) where
           room = omega (arith, h .room, u .long);
           long = u .long ∙ h .long;
           ahead = λ cs t a.
-              ahead-next (λ b. contact strict) (contactsBytes touchRecord) l d cs t out pos at left (h .ahead cs t a) c next o (contactBytes touched c) 21 k (one .reads) (contacts-cons c) (v .output) (sym e);
+              ahead-next (λ b. contact taken) (contactsBytes touchRecord) l d cs t out pos at left (h .ahead cs t a) c next o (contactBytes touched c) 21 k (one .reads) (contacts-cons c) (v .output) (sym e);
         }
 
     -- where there is none, there are no n contacts
-    pub laying-bad : (e : ℕ) → 0 < left → contact strict .read (drop at l) ≡ bad e → WritesContacts n l d out
-    laying-bad e k b cs t a = ahead-bad (λ b. contact strict) (contactsBytes touchRecord) l d cs t out pos at left (h .ahead cs t a) e k b
+    pub laying-bad : (e : ℕ) → 0 < left → contact taken .read (drop at l) ≡ bad e → WritesContacts n l d out
+    laying-bad e k b cs t a = ahead-bad (λ b. contact taken) (contactsBytes touchRecord) l d cs t out pos at left (h .ahead cs t a) e k b
 
     pub laying-done : left ≤ 0 → WritesContacts n l d out
-    laying-done k cs t a = ahead-done (λ b. contact strict) (contactsBytes touchRecord) l d cs t out pos at left (h .ahead cs t a) k contacts-none
+    laying-done k cs t a = ahead-done (λ b. contact taken) (contactsBytes touchRecord) l d cs t out pos at left (h .ahead cs t a) k contacts-none

@@ -11,7 +11,7 @@ use Rattle.formats.specs.Format.{Got, got, bad, times, readSeries}
 use Rattle.formats.specs.Answer.{skip, skipped}
 use Rattle.formats.proofs.Laws.{never, series-length, next-got}
 use Rattle.formats.proofs.Steps.{tail}
-use Rattle.fields.specs.Integers.{strict}
+use Rattle.fields.specs.Integers.{taken}
 use Rattle.house.specs.declared.Head.{Head}
 use Rattle.house.specs.declared.Contact.{Contact}
 use Rattle.framing.specs.Frame.{Frame, headOf}
@@ -26,30 +26,30 @@ use Rattle.frame_records.specs.declared.FoundHead.{FoundHead}
 
 module _ (l : List ℕ) where
   -- no head
-  pub headless : (e : ℕ) (r : FoundFrame) → frameHead strict false .read l ≡ bad e → r ≡ nowhere → FindsFrame l r
+  pub headless : (e : ℕ) (r : FoundFrame) → frameHead taken false .read l ≡ bad e → r ≡ nowhere → FindsFrame l r
   unfolding frameFormat
   headless e r h q = rw q (record { found = rw h; begins = omega arith; ends = omega arith })
 
-  module _ (h : Head) (at : ℕ) (w : frameHead strict false .read l ≡ got h (drop at l)) where
+  module _ (h : Head) (at : ℕ) (w : frameHead taken false .read l ≡ got h (drop at l)) where
     -- no contacts
-    pub unfinished : (e : ℕ) (r : FoundFrame) → skip (times (h .count) (contact strict)) .read (drop at l) ≡ bad e → r ≡ nowhere → FindsFrame l r
+    pub unfinished : (e : ℕ) (r : FoundFrame) → skip (times (h .count) (contact taken)) .read (drop at l) ≡ bad e → r ≡ nowhere → FindsFrame l r
     unfolding frameFormat
-    unfinished e r v q = go (times (h .count) (contact strict) .read (drop at l)) refl v
+    unfinished e r v q = go (times (h .count) (contact taken) .read (drop at l)) refl v
       where
-        go : (x : Got (List Contact)) → times (h .count) (contact strict) .read (drop at l) ≡ x → skipped x ≡ bad e → FindsFrame l r
+        go : (x : Got (List Contact)) → times (h .count) (contact taken) .read (drop at l) ≡ x → skipped x ≡ bad e → FindsFrame l r
         go (got cs t) k v = never e tt t (sym v)
         go (bad y) k v = rw q (record { found = rw (w, k); begins = omega arith; ends = omega arith })
 
-    pub complete : (end : ℕ) → skip (times (h .count) (contact strict)) .read (drop at l) ≡ got tt (drop end l) → at ≤ length l → end ≤ length l
+    pub complete : (end : ℕ) → skip (times (h .count) (contact taken)) .read (drop at l) ≡ got tt (drop end l) → at ≤ length l → end ≤ length l
         → FindsFrame l (record { head = h; contacts = at; end = end })
     unfolding frameFormat
-    complete end v low high = go (times (h .count) (contact strict) .read (drop at l)) refl v
+    complete end v low high = go (times (h .count) (contact taken) .read (drop at l)) refl v
       where
-        go : (x : Got (List Contact)) → times (h .count) (contact strict) .read (drop at l) ≡ x → skipped x ≡ got tt (drop end l)
+        go : (x : Got (List Contact)) → times (h .count) (contact taken) .read (drop at l) ≡ x → skipped x ≡ got tt (drop end l)
             → FindsFrame l (record { head = h; contacts = at; end = end })
         go (bad y) k v = never y tt (drop end l) v
         go (got cs t) k v =
-            let n : length cs ≡ h .count = series-length (λ b. contact strict) false (h .count) (drop at l) cs t k in
+            let n : length cs ≡ h .count = series-length (λ b. contact taken) false (h .count) (drop at l) cs t k in
             let z : t ≡ drop end l = cc in
             let q : h ≡ record { count = length cs; offset = h .offset } = λ i. record { count = sym n i; offset = h .offset } in
             record {
@@ -79,16 +79,16 @@ module _ (l : List ℕ) (at : ℕ) (r : FoundFrame) (here : FindsFrame (take (le
 
 -- a frame whose head was found, and of whose contacts it is known where they end
 pub found-by-head : (l : List ℕ) (at : ℕ) (h : FoundHead) (end : ℕ) → FindsHead (take (length l - at) (drop at l)) h
-    → ((cs : List Contact) (t : List ℕ) → times (h .head .count) (contact strict) .read (drop (at + h .contacts) l) ≡ got cs t → drop end (drop (at + h .contacts) l) ≡ t)
+    → ((cs : List Contact) (t : List ℕ) → times (h .head .count) (contact taken) .read (drop (at + h .contacts) l) ≡ got cs t → drop end (drop (at + h .contacts) l) ≡ t)
     → (f : Frame Contact) (t : List ℕ) → frameBy false (drop at l) ≡ got f t
     → Found (drop at l) f t (record { head = h .head; contacts = h .contacts; end = h .contacts + end })
 found-by-head l at h end here ends f t e =
-    let r = frame-got strict touchLimits (contact strict) false (drop at l) f t e in
+    let r = frame-got taken touchLimits (contact taken) false (drop at l) f t e in
     let x : FindsHead (drop at l) h = rw (tail l at) at here in
     let y : FindsHeadAt (got (headOf f) (r .after)) (drop at l) h = rw (r .head) at (x .found) in
     let a : drop (at + h .contacts) l ≡ r .after = sym (drop-drop (h .contacts) at l) ∙ y .1 in
     let n : h .head .count ≡ length (f .contacts) = ap (λ (g : Head). g .count) (y .0) in
-    let cs : times (length (f .contacts)) (contact strict) .read (drop (at + h .contacts) l) ≡ got (f .contacts) t = rw a (r .contacts) in
+    let cs : times (length (f .contacts)) (contact taken) .read (drop (at + h .contacts) l) ≡ got (f .contacts) t = rw a (r .contacts) in
     record {
       head = y .0;
       headed = r .head ∙ ap (λ (u : List ℕ). got (headOf f) u) (sym (y .1));
@@ -102,14 +102,14 @@ module _ (l : List ℕ) (at : ℕ) (r : FoundFrame) (here : (f : Frame Contact) 
     pub frame : Frame Contact
     pub head : r .head ≡ headOf frame
     pub read : frameBy false (drop at l) ≡ got frame (drop (at + r .end) l)
-    pub contacts : times (r .head .count) (contact strict) .read (drop (at + r .contacts) l) ≡ got (frame .contacts) (drop (at + r .end) l)
+    pub contacts : times (r .head .count) (contact taken) .read (drop (at + r .contacts) l) ≡ got (frame .contacts) (drop (at + r .end) l)
     pub others : List (Frame Contact)
     pub all : more ≡ frame ∷ others
     pub after : readSeries frameBy false (left - 1) (drop (at + r .end) l) ≡ got others t
 
   pub turn : (t : List ℕ) (left : ℕ) (more : List (Frame Contact)) → 0 < left → readSeries frameBy false left (drop at l) ≡ got more t → Turn t left more
   turn t left more h e =
-      let m = next-got (frame strict) false left (drop at l) more t h e in
+      let m = next-got (frame taken) false left (drop at l) more t h e in
       let x = here (m .head) (m .after) (m .one) in
       let y : m .after ≡ drop (at + r .end) l = sym (x .rest) ∙ drop-drop (r .end) at l in
       record {

@@ -8,7 +8,7 @@ use native.Mathlib.Omega.{arith}
 use lib.ListN.{length, length-append}
 use Rattle.formats.specs.Format.{got, times}
 use Rattle.formats.proofs.Laws.{series-length}
-use Rattle.fields.specs.Integers.{strict}
+use Rattle.fields.specs.Integers.{taken}
 use Rattle.house.specs.Layout.{headBytes, contactBytes, touched}
 use Rattle.house.specs.declared.Head.{Head}
 use Rattle.house.specs.declared.Contact.{Contact}
@@ -55,11 +55,11 @@ length-contacts [] = refl
 length-contacts (c ∷ cs) = rw (length-append, length-contact touched c, length-contacts cs) (omega arith)
 
 -- of n contacts that were read
-pub length-read : (n : ℕ) (l : List ℕ) (cs : List Contact) (t : List ℕ) → times n (contact strict) .read l ≡ got cs t → length (contactsBytes touchRecord cs) ≡ 21 * n
-length-read n l cs t e = length-contacts cs ∙ ap (λ (k : ℕ). 21 * k) (series-length (λ b. contact strict) false n l cs t e)
+pub length-read : (n : ℕ) (l : List ℕ) (cs : List Contact) (t : List ℕ) → times n (contact taken) .read l ≡ got cs t → length (contactsBytes touchRecord cs) ≡ 21 * n
+length-read n l cs t e = length-contacts cs ∙ ap (λ (k : ℕ). 21 * k) (series-length (λ b. contact taken) false n l cs t e)
 
 -- of a head and its contacts that were read
-pub length-written : (h : Head) (l : List ℕ) (cs : List Contact) (t : List ℕ) → times (h .count) (contact strict) .read l ≡ got cs t → length (headBytes h ++ contactsBytes touchRecord cs) ≡ 21 * (h .count + 1)
+pub length-written : (h : Head) (l : List ℕ) (cs : List Contact) (t : List ℕ) → times (h .count) (contact taken) .read l ≡ got cs t → length (headBytes h ++ contactsBytes touchRecord cs) ≡ 21 * (h .count + 1)
 length-written h l cs t e = rw (length-append, length-head h, length-read (h .count) l cs t e) (omega arith)
 
 pub length-frame : (f : Frame Contact) → length (frameBytes touchRecord f) ≡ 21 * (length (f .contacts) + 1)

@@ -9,7 +9,7 @@ use lib.ListN.{length, drop, length-drop}
 use Rattle.slices.specs.declared.Written.{Written}
 use Rattle.slices.proofs.Laws.{writes-unique}
 use Rattle.formats.specs.Format.{Got, got, bad, times}
-use Rattle.fields.specs.Integers.{strict}
+use Rattle.fields.specs.Integers.{taken}
 use Rattle.house.specs.declared.Head.{Head}
 use Rattle.house.specs.declared.Contact.{Contact}
 use Rattle.framing.specs.Frame.{Frame, headOf}
@@ -18,7 +18,7 @@ use Rattle.frame_records.specs.Frames.{WritesFrame, Finds, FindsFrame, F
 use Rattle.frame_records.specs.declared.FoundFrame.{FoundFrame}
 use Rattle.frame_records.specs.declared.FoundHead.{FoundHead}
 
-pub write-frame-unique : (h : Head) (l : List ℕ) (cs : List Contact) (t : List ℕ) → times (h .count) (contact strict) .read l ≡ got cs t
+pub write-frame-unique : (h : Head) (l : List ℕ) (cs : List Contact) (t : List ℕ) → times (h .count) (contact taken) .read l ≡ got cs t
     → (v w : Written) (before after after′ : List ℕ) → WritesFrame h l v before after → WritesFrame h l w before after′ → (v ≡ w) × (after ≡ after′)
 write-frame-unique h l cs t e v w b a a′ p q = writes-unique _ v w b a a′ (p cs t e) (q cs t e)
 
@@ -29,7 +29,7 @@ place : (l : List ℕ) (m n : ℕ) → m ≤ length l → n ≤ length l → dro
 place l m n hm hn e = omega (arith, length-drop m l, length-drop n l, ap length e)
 
 pub find-frame-unique : (l : List ℕ) (r s : FoundFrame) → FindsFrame l r → FindsFrame l s → r ≡ s
-find-frame-unique l r s p q = go (frame strict false .read l) (p .found) (q .found)
+find-frame-unique l r s p q = go (frame taken false .read l) (p .found) (q .found)
   where
     go : (x : Got (Frame Contact)) → Finds x l r → Finds x l s → r ≡ s
     go (bad e) a b = a ∙ sym b
@@ -41,7 +41,7 @@ find-frame-unique l r s p q = go (frame strict false .read l) (p .found) (q .fou
         λ i. record { head = h i; contacts = m i; end = n i }
 
 pub find-head-unique : (l : List ℕ) (r s : FoundHead) → FindsHead l r → FindsHead l s → r ≡ s
-find-head-unique l r s p q = go (frameHead strict false .read l) (p .found) (q .found)
+find-head-unique l r s p q = go (frameHead taken false .read l) (p .found) (q .found)
   where
     go : (x : Got Head) → FindsHeadAt x l r → FindsHeadAt x l s → r ≡ s
     go (bad e) a b = a ∙ sym b

@@ -7,7 +7,7 @@ use lib.ListN.{length, drop}
 use Rattle.slices.specs.Writing.{laid, bytes, Writes}
 use Rattle.slices.specs.declared.Written.{Written}
 use Rattle.formats.specs.Format.{Got, got, bad, times}
-use Rattle.fields.specs.Integers.{strict}
+use Rattle.fields.specs.Integers.{taken}
 use Rattle.house.specs.Layout.{headBytes}
 use Rattle.house.specs.declared.Head.{Head}
 use Rattle.house.specs.declared.Contact.{Contact}
@@ -24,17 +24,17 @@ recordsIn (f ∷ fs) = suc (length (f .contacts)) + recordsIn fs
 -- THE CONTRACT OF WRITING A FRAME: of its head and the bytes l from its first contact on. Where its contacts cannot be read nothing is said.
 abbrev pub WritesFrame : Head → List ℕ → Written → List ℕ → List ℕ → Type 0
 WritesFrame head l w before after =
-    (cs : List Contact) (t : List ℕ) → times (head .count) (contact strict) .read l ≡ got cs t → Writes (bytes (headBytes head ++ contactsBytes touchRecord cs)) w before after
+    (cs : List Contact) (t : List ℕ) → times (head .count) (contact taken) .read l ≡ got cs t → Writes (bytes (headBytes head ++ contactsBytes touchRecord cs)) w before after
 
 -- of n contacts, where there is room for their records
 abbrev pub WritesContacts : ℕ → List ℕ → List ℕ → List ℕ → Type 0
-WritesContacts n l before after = (cs : List Contact) (t : List ℕ) → times n (contact strict) .read l ≡ got cs t → after ≡ laid before (contactsBytes touchRecord cs)
+WritesContacts n l before after = (cs : List Contact) (t : List ℕ) → times n (contact taken) .read l ≡ got cs t → after ≡ laid before (contactsBytes touchRecord cs)
 
 -- where a frame stands that is read at the front of l, with t behind it
 pub record Found (l : List ℕ) (f : Frame Contact) (t : List ℕ) (r : FoundFrame) : Type 0 where
   pub head : r .head ≡ headOf f
-  pub headed : frameHead strict false .read l ≡ got (headOf f) (drop (r .contacts) l)
-  pub contacts : times (length (f .contacts)) (contact strict) .read (drop (r .contacts) l) ≡ got (f .contacts) t
+  pub headed : frameHead taken false .read l ≡ got (headOf f) (drop (r .contacts) l)
+  pub contacts : times (length (f .contacts)) (contact taken) .read (drop (r .contacts) l) ≡ got (f .contacts) t
   pub rest : drop (r .end) l ≡ t
 
 -- the answer where no frame can be read
@@ -47,7 +47,7 @@ Finds (bad e) l r = r ≡ nowhere
 
 -- THE CONTRACT OF FINDING A FRAME at the front of l
 pub record FindsFrame (l : List ℕ) (r : FoundFrame) : Type 0 where
-  pub found : Finds (frame strict false .read l) l r
+  pub found : Finds (frame taken false .read l) l r
   pub begins : r .contacts ≤ length l
   pub ends : r .end ≤ length l
 
@@ -57,5 +57,5 @@ FindsHeadAt (got h t) l r = (r .head ≡ h) × (drop (r .contacts) l ≡ t)
 FindsHeadAt (bad e) l r = r ≡ record { head = nowhere .head; contacts = 0 }
 
 pub record FindsHead (l : List ℕ) (r : FoundHead) : Type 0 where
-  pub found : FindsHeadAt (frameHead strict false .read l) l r
+  pub found : FindsHeadAt (frameHead taken false .read l) l r
   pub begins : r .contacts ≤ length l

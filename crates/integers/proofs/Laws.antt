@@ -24,18 +24,18 @@ use Rattle.integers.proofs.ByteOne.{tops-pos, signs-pos, count-range, h
 -- ---- decoding, at any length
 
 -- what is decoded where the list holds the whole integer
-abbrev pub taken : ℕ → ℕ → List ℕ → Reading
-taken t q l =
+abbrev pub heldThere : ℕ → ℕ → List ℕ → Reading
+heldThere t q l =
     let b : ℕ = getD l 0 0 in
     value (signOf t q b) (joined (b % t) (take (countOf t q b) (drop 1 l))) (countOf t q b + 1)
 
 -- the two cases of decoding
 pub data Cases (t q : ℕ) (l : List ℕ) : Type 0 where
-  whole : countOf t q (getD l 0 0) < length l → decoded t q l ≡ taken t q l → Cases t q l
+  whole : countOf t q (getD l 0 0) < length l → decoded t q l ≡ heldThere t q l → Cases t q l
   short : length l ≤ countOf t q (getD l 0 0) → decoded t q l ≡ refused truncated → Cases t q l
 
 module _ (t q : ℕ) (l : List ℕ) where
-  pub decoded-whole : countOf t q (getD l 0 0) < length l → decoded t q l ≡ taken t q l
+  pub decoded-whole : countOf t q (getD l 0 0) < length l → decoded t q l ≡ heldThere t q l
   unfolding decoded
   decoded-whole h = rw (lt-ltb _ _ h)
 
@@ -75,9 +75,9 @@ pub record Decoded (t q : ℕ) (l : List ℕ) (s m n : ℕ) : Type 0 where
   pub bytes : take n l ≡ formed t q (countOf t q (getD l 0 0)) s m
 
 module _ (t q : ℕ) (ht : 0 < t) (hq : 0 < q) where
-  taken-bytes : (b : ℕ) (xs : List ℕ) → Bytes xs → countOf t q b < suc (length xs) → Decoded t q (b ∷ xs) (signOf t q b) (joined (b % t) (take (countOf t q b) xs)) (countOf t q b + 1)
+  held-bytes : (b : ℕ) (xs : List ℕ) → Bytes xs → countOf t q b < suc (length xs) → Decoded t q (b ∷ xs) (signOf t q b) (joined (b % t) (take (countOf t q b) xs)) (countOf t q b + 1)
   unfolding formed
-  taken-bytes b xs h k =
+  held-bytes b xs h k =
       let c : ℕ = countOf t q b in
       let ys : List ℕ = take c xs in
       let hy : Bytes ys = bytes-take c xs h in
@@ -100,7 +100,7 @@ module _ (t q : ℕ) (ht : 0 < t) (hq : 0 < q) where
           let es : signOf t q b ≡ s = cc in
           let em : joined (b % t) (take (countOf t q b) xs) ≡ m = cc in
           let en : countOf t q b + 1 ≡ n = cc in
-          rw (es, em, en) at (taken-bytes b xs (λ i. h (suc i)) k)
+          rw (es, em, en) at (held-bytes b xs (λ i. h (suc i)) k)
 
 -- a reading stays inside what it was given
 pub decoded-inside : (t q : ℕ) (l : List ℕ) (s m n : ℕ) → decoded t q l ≡ value s m n → n ≤ length l

@@ -10,7 +10,7 @@ use lib.ListN.{length, drop}
 use Rattle.formats.specs.Format.{Got, got, bad, andThen, readSeries}
 use Rattle.formats.specs.Answer.{skipped}
 use Rattle.formats.proofs.Steps.{Stepped}
-use Rattle.fields.specs.Integers.{strict}
+use Rattle.fields.specs.Integers.{taken}
 use Rattle.states.specs.Table.{out, next}
 use Rattle.house.specs.declared.Contact.{Contact}
 use Rattle.touch.specs.Touch.{contact}
@@ -39,13 +39,13 @@ module _ (t : Table) where
   read-end zero l h = refl
   read-end (suc k) l h = absurd (omega arith)
 
-  pub read-bad : (k : ℕ) (l : List ℕ) (e : ℕ) → 0 < k → contact strict .read l ≡ bad e → afterRead k t l ≡ t
+  pub read-bad : (k : ℕ) (l : List ℕ) (e : ℕ) → 0 < k → contact taken .read l ≡ bad e → afterRead k t l ≡ t
   unfolding afterRead
   read-bad zero l e h w = absurd (omega arith)
   read-bad (suc k) l e h w = rw w
 
 -- a contact stored, and the others still to be read
-pub read-on : (t u : Table) (k at end : ℕ) (s : List ℕ) (c : Contact) → 0 < k → Stepped (contact strict) s at c end → Moves c t u
+pub read-on : (t u : Table) (k at end : ℕ) (s : List ℕ) (c : Contact) → 0 < k → Stepped (contact taken) s at c end → Moves c t u
     → afterRead (k - 1) u (drop end s) ≡ afterRead k t (drop at s)
 unfolding afterRead
 read-on t u zero at end s c h w m = absurd (omega arith)
@@ -64,7 +64,7 @@ Leads n = (t : Table) (l : List ℕ) (cs : List Contact) (rest : List ℕ) → c
 
 one-more : (n : ℕ) → Leads n → Leads (suc n)
 unfolding afterRead tableAfter readSeries
-one-more n leads t l cs rest e = first (contact strict .read l) e
+one-more n leads t l cs rest e = first (contact taken .read l) e
   where
     others : (c : Contact) (m : List ℕ) (y : Got (List Contact)) → contactsOf n m ≡ y → andThen y (λ ds v. got (c ∷ ds) v) ≡ got cs rest
         → afterRead n (moved touchView next t c) m ≡ tableAfter touchView next t cs

@@ -8,7 +8,7 @@ use lib.ListN.{length, drop}
 use Rattle.slices.specs.Writing.{bytes, Writes}
 use Rattle.slices.specs.declared.Written.{Written}
 use Rattle.formats.specs.Format.{Got, got, bad}
-use Rattle.fields.specs.Integers.{strict}
+use Rattle.fields.specs.Integers.{taken}
 use Rattle.states.specs.Table.{next}
 use Rattle.house.specs.declared.Contact.{Contact}
 use Rattle.touch.specs.Touch.{contact}
@@ -26,7 +26,7 @@ onRead z f (bad e) = z
 -- what n contacts at the front of a list of bytes leave, one after the other; those before the first that cannot be read, where one cannot
 unfoldable pub afterRead : ℕ → Table → List ℕ → Table
 afterRead zero t l = t
-afterRead (suc n) t l = onRead t (λ c rest. afterRead n (moved touchView next t c) rest) (contact strict .read l)
+afterRead (suc n) t l = onRead t (λ c rest. afterRead n (moved touchView next t c) rest) (contact taken .read l)
 
 -- one contact stored
 abbrev pub Moves : Contact → Table → Table → Type 0

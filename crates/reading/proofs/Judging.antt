@@ -10,7 +10,7 @@ use lib.Seq.{drop-drop}
 use Rattle.formats.specs.Format.{Got, got, bad}
 use Rattle.formats.proofs.Laws.{never}
 use Rattle.formats.proofs.Steps.{tail}
-use Rattle.fields.specs.Integers.{strict}
+use Rattle.fields.specs.Integers.{taken}
 use Rattle.framing.specs.Format.{summary}
 use Rattle.messages.specs.Header.{headerBytes}
 use Rattle.touch.specs.Touch.{Touch, body}
@@ -26,7 +26,7 @@ refused-of e (bad y) h = cc
 refused-of e (got m t) h = never e _ t h
 
 -- a message whose header is accepted: its body is lent as its tail
-module _ (l : List ℕ) (b : plainly l ≡ body strict false (take (length l - headerBytes) (drop headerBytes l))) where
+module _ (l : List ℕ) (b : plainly l ≡ body taken false (take (length l - headerBytes) (drop headerBytes l))) where
   pub body-refused : (e : ℕ) → Checks false (take (length l - headerBytes) (drop headerBytes l)) (CheckedBody.Refused e) → plainly l ≡ bad e
   body-refused e c = b ∙ refused-of e _ (c .same)
 

@@ -10,7 +10,7 @@ use Rattle.slices.specs.declared.Written.{Written}
 use Rattle.slices.proofs.Laws.{writes-done}
 use Rattle.formats.specs.Format.{got}
 use Rattle.formats.proofs.Steps.{tail}
-use Rattle.fields.specs.Integers.{strict}
+use Rattle.fields.specs.Integers.{taken}
 use Rattle.house.specs.Layout.{headBytes}
 use Rattle.house.specs.declared.Contact.{Contact}
 use Rattle.framing.specs.Frame.{Frame, contactsBytes, frameBytes, framesBytes}
@@ -26,11 +26,11 @@ use Rattle.reading.specs.Passes.{frames, Roomy, WritesFrames}
 pub record Writing (n : ℕ) (l d out : List ℕ) (pos at left : ℕ) : Type 0 where
   pub whole : List (Frame Contact)
   pub read : frames n .read l ≡ got whole []
-  pub ahead : Ahead (frame strict) (framesBytes touchRecord) l d whole [] out pos at left
+  pub ahead : Ahead (frame taken) (framesBytes touchRecord) l d whole [] out pos at left
 
 module _ (n : ℕ) (l d : List ℕ) where
   pub writing-first : Roomy n l (length d) → Writing n l d d 0 0 n
-  writing-first r = record { whole = r .whole; read = r .read; ahead = ahead-first (frame strict) (framesBytes touchRecord) l d (r .whole) [] n (r .read) (r .fits) }
+  writing-first r = record { whole = r .whole; read = r .read; ahead = ahead-first (frame taken) (framesBytes touchRecord) l d (r .whole) [] n (r .read) (r .fits) }
 
   module _ (out : List ℕ) (pos at left : ℕ) (h : Writing n l d out pos at left) where
     -- the frame r was found, and w answered for its records, written through the tail that came back as o
@@ -45,15 +45,15 @@ module _ (n : ℕ) (l d : List ℕ) where
         let y : Writes (bytes (headBytes (r .head) ++ contactsBytes touchRecord (f .contacts))) w (midOf pos (length out - pos) out) o = written (f .contacts) (drop next l) (rw (tail l (at + r .contacts)) (x .contacts)) in
         let e : headBytes (r .head) ++ contactsBytes touchRecord (f .contacts) ≡ frameBytes touchRecord f = ap (λ g. headBytes g ++ contactsBytes touchRecord (f .contacts)) (x .head) ∙ sym (frame-is f) in
         let z : Writes (bytes (frameBytes touchRecord f)) w (midOf pos (length out - pos) out) o = rw e at y in
-        let v = writes-done _ _ _ _ z (ahead-room (frame strict) (framesBytes touchRecord) l d (h .whole) [] out pos at left a f next (frameBytes touchRecord f) k (x .read) (frames-cons f)) in
+        let v = writes-done _ _ _ _ z (ahead-room (frame taken) (framesBytes touchRecord) l d (h .whole) [] out pos at left a f next (frameBytes touchRecord f) k (x .read) (frames-cons f)) in
         record {
           whole = h .whole;
           read = h .read;
-          ahead = ahead-next (frame strict) (framesBytes touchRecord) l d (h .whole) [] out pos at left a f next o (frameBytes touchRecord f) (w .bytes) k (x .read) (frames-cons f) (v .output) (v .count);
+          ahead = ahead-next (frame taken) (framesBytes touchRecord) l d (h .whole) [] out pos at left a f next o (frameBytes touchRecord f) (w .bytes) k (x .read) (frames-cons f) (v .output) (v .count);
         }
 
     pub writing-done : left ≤ 0 → WritesFrames n l d out
     writing-done k fs t e =
         let p : got fs t ≡ got (h .whole) [] = sym e ∙ h .read in
         let q : h .whole ≡ fs = cc in
-        rw q at (ahead-done (frame strict) (framesBytes touchRecord) l d (h .whole) [] out pos at left (h .ahead) k frames-none)
+        rw q at (ahead-done (frame taken) (framesBytes touchRecord) l d (h .whole) [] out pos at left (h .ahead) k frames-none)

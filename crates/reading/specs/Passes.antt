@@ -6,7 +6,7 @@ use mathlib.Core.List.{List, []}
 use lib.ListN.{length, drop}
 use Rattle.slices.specs.Writing.{laid}
 use Rattle.formats.specs.Format.{Format, got, bad, series}
-use Rattle.fields.specs.Integers.{strict}
+use Rattle.fields.specs.Integers.{taken}
 use Rattle.house.specs.declared.Contact.{Contact}
 use Rattle.framing.specs.Frame.{Frame, framesBytes}
 use Rattle.framing.specs.Format.{bodyHeadOf}
@@ -19,7 +19,7 @@ use Rattle.reading.specs.Plain.{plainly}
 
 -- n frames, whose offsets are not judged
 abbrev pub frames : ℕ → Format (List (Frame Contact))
-frames n = series (frame strict) false n
+frames n = series (frame taken) false n
 
 -- a message that is read: what stands before its frames, and that these begin at at
 pub record Reads (l : List ℕ) (h : BodyHead) (at : ℕ) : Type 0 where

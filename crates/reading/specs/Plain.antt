@@ -8,7 +8,7 @@ use Rattle.paper.specs.Refusals.{none}
 use Rattle.paper.specs.declared.Milliseconds.{Milliseconds}
 use Rattle.slices.specs.Writing.{Draft, bytes, refuse, given, left}
 use Rattle.formats.specs.Format.{Got, got, bad}
-use Rattle.fields.specs.Integers.{strict}
+use Rattle.fields.specs.Integers.{taken}
 use Rattle.house.specs.Fields.{recordBytes}
 use Rattle.messages.specs.Header.{readMessage}
 use Rattle.messages.specs.Header as event
@@ -18,7 +18,7 @@ use Rattle.reading.specs.declared.PlainAnswer.{PlainAnswer}
 
 -- what a message says: checks 1 to 4, the body left to right, 12
 abbrev pub plainly : List ℕ → Got Touch
-plainly l = readMessage event.touch (touch strict false) l
+plainly l = readMessage event.touch (touch taken false) l
 
 -- what is written, given room: the records of its frames
 abbrev pub draftOf : Got Touch → Draft

@@ -10,7 +10,7 @@ use borrow.Author.Tests.{eqb-true}
 use Rattle.paper.specs.Refusals.{none, noRoom, trailing}
 use Rattle.slices.specs.Writing.{bytes, refuse, given}
 use Rattle.formats.specs.Format.{Got, got, bad, andThen, whole, byte}
-use Rattle.fields.specs.Integers.{strict}
+use Rattle.fields.specs.Integers.{taken}
 use Rattle.messages.specs.Header.{oneOf, headed, headerBytes, clientReady, touch, dismiss}
 use Rattle.messages.specs.Bodies.{ready}
 use Rattle.messages.specs.declared.Ready.{Ready}
@@ -28,7 +28,7 @@ use Rattle.receiver.specs.History.{Sent, next, answerTo, wrote, writtenB
 pub data Does (r : Receiver) (l : List ℕ) : Got Effect → Got Touch → Type 0 where
   fails : (n k : ℕ) → Does r l (bad n) (bad k)
   settles : (s : Ready) (t : List ℕ) (k : ℕ) → off (r .ready) ≡ true → Does r l (got (settled r s) t) (bad k)
-  touches : (m : Touch) (t : List ℕ) → off (r .ready) ≡ false → body strict (judged r) (drop headerBytes l) ≡ got m t → Does r l (got (touched r m) t) (got m t)
+  touches : (m : Touch) (t : List ℕ) → off (r .ready) ≡ false → body taken (judged r) (drop headerBytes l) ≡ got m t → Does r l (got (touched r m) t) (got m t)
   dismisses : (id : ℕ) (t : List ℕ) (k : ℕ) → off (r .ready) ≡ false → whole byte trailing (drop headerBytes l) ≡ got id t → Does r l (got (dismissedBy r id) t) (bad k)
 
 -- "The receiver takes event 2 until it accepts one, then only 3 and 6."
@@ -51,7 +51,7 @@ module _ (r : Receiver) (l : List ℕ) where
   settles-by (bad n) o = fails n none
   settles-by (got s t) o = settles s t none o
 
-  touches-by : (x : Got Touch) → off (r .ready) ≡ false → body strict (judged r) (drop headerBytes l) ≡ x → Does r l (andThen x (λ m t. got (touched r m) t)) x
+  touches-by : (x : Got Touch) → off (r .ready) ≡ false → body taken (judged r) (drop headerBytes l) ≡ x → Does r l (andThen x (λ m t. got (touched r m) t)) x
   touches-by (bad n) o h = fails n n
   touches-by (got m t) o h = touches m t o h
 
@@ -60,7 +60,7 @@ module _ (r : Receiver) (l : List ℕ) where
   dismisses-by (got id t) o h = dismisses id t none o h
 
   abbrev touchBy : ℕ → List ℕ → Got Touch
-  touchBy e b = cond (eqb e touch) (body strict (judged r) b) (bad none)
+  touchBy e b = cond (eqb e touch) (body taken (judged r) b) (bad none)
 
   by-event : (e : ℕ) → oneOf (takes r) e ≡ true → (p q : Bool) → eqb e clientReady ≡ p → eqb e touch ≡ q → let b = drop headerBytes l in Does r l (bodyEffect r e b) (touchBy e b)
   by-event e k true q hp hq =
@@ -70,7 +70,7 @@ module _ (r : Receiver) (l : List ℕ) where
   by-event e k false true hp hq =
       let z : e ≡ touch = eqb-true _ _ hq in
       let o = takes-touch (off (r .ready)) (rw z at k) in
-      rw z (touches-by (body strict (judged r) (drop headerBytes l)) o refl)
+      rw z (touches-by (body taken (judged r) (drop headerBytes l)) o refl)
   by-event e k false false hp hq =
       let o = takes-other (off (r .ready)) e hp k in
       rw (hp, hq) (dismisses-by (whole byte trailing (drop headerBytes l)) o refl)
@@ -90,7 +90,7 @@ module _ (r : Receiver) (l : List ℕ) where
 pub data Became (r : Receiver) (l : List ℕ) : Receiver → List ℕ → Answer → List (Frame Contact) → Type 0 where
   refused : (n : ℕ) → Became r l r [] (refusal n) []
   settles : (s : Ready) → off (r .ready) ≡ true → Became r l (settled r s .receiver) [] (answerOf (settled r s)) []
-  touches : (m : Touch) (t : List ℕ) → off (r .ready) ≡ false → body strict (judged r) (drop headerBytes l) ≡ got m t
+  touches : (m : Touch) (t : List ℕ) → off (r .ready) ≡ false → body taken (judged r) (drop headerBytes l) ≡ got m t
       → Became r l (touched r m .receiver) (touched r m .bytes) (answerOf (touched r m)) (m .frames)
   dismisses : (id : ℕ) (t : List ℕ) → off (r .ready) ≡ false → whole byte trailing (drop headerBytes l) ≡ got id t
       → Became r l (dismissedBy r id .receiver) (dismissedBy r id .bytes) (answerOf (dismissedBy r id)) []

@@ -11,7 +11,7 @@ use lib.ListN.{length, length-drop}
 use Rattle.paper.specs.Refusals.{trailing}
 use Rattle.formats.specs.Format.{Got, got, bad, andThen, whole, byte}
 use Rattle.formats.proofs.Laws.{never}
-use Rattle.fields.specs.Integers.{strict}
+use Rattle.fields.specs.Integers.{taken}
 use Rattle.states.specs.Table.{hovering}
 use Rattle.messages.specs.Header.{headed, headerBytes, mostBytes, clientReady, touch}
 use Rattle.messages.specs.Bodies.{ready}
@@ -47,7 +47,7 @@ module _ (r : Receiver) (h : length (r .states) ≡ contacts) where
     where
       go : (x y : Bool) → cond x (readyEffect r b) (cond y (touchEffect r b) (dismissEffect r b)) ≡ got e t → length (e .bytes) ≤ mostOutput
       go true y w = from-body (settled r) (whole ready trailing b) e t w (λ a u k. omega arith)
-      go false true w = from-body (touched r) (body strict (judged r) b) e t w (λ m u k. omega (arith, touch-small r h b m u k))
+      go false true w = from-body (touched r) (body taken (judged r) b) e t w (λ m u k. omega (arith, touch-small r h b m u k))
       go false false w = from-body (dismissedBy r) (whole byte trailing b) e t w (λ id u k. dismiss-small (machineOf r .table) id)
 
   -- no message writes more than 48 KiB

@@ -7,8 +7,8 @@ use mathlib.Core.List.{List, []}
 use Rattle.digits.specs.Digits.{Bytes}
 use Rattle.formats.specs.Format.{Got, got, bad, Format, readSeries}
 use Rattle.formats.proofs.Laws.{Sound, never, more-got}
-use Rattle.fields.specs.Integers.{strict}
-use Rattle.fields.proofs.Laws.{strict-law, strict-range}
+use Rattle.fields.specs.Integers.{taken}
+use Rattle.fields.proofs.Laws.{taken-law, taken-range}
 use Rattle.house.specs.Fits.{ContactFits}
 use Rattle.house.specs.declared.Contact.{Contact}
 use Rattle.framing.specs.Frame.{Frame, headOf}
@@ -31,24 +31,24 @@ module _ {A : Type 0} (f : Bool → Format A) (P : A → Type 0) (sound : (b : B
       let m = more-got f first n l s t e in
       rw (m .all) (each first l (m .head) (m .after) hl (m .one), all-read false n (m .after) (m .rest) t (sound first l (m .head) (m .after) hl (m .one) .1) (m .others))
 
-frame-read : (judged : Bool) (l : List ℕ) (f : Frame Contact) (t : List ℕ) → Bytes l → frame strict judged .read l ≡ got f t → FrameFits ContactFits f
+frame-read : (judged : Bool) (l : List ℕ) (f : Frame Contact) (t : List ℕ) → Bytes l → frame taken judged .read l ≡ got f t → FrameFits ContactFits f
 frame-read judged l f t hl e =
-    let g = frame-got strict touchLimits (contact strict) judged l f t e in
-    let ha = frame-head-law strict strict-law touchLimits judged .sound l (headOf f) (g .after) hl (g .head) .1 in
+    let g = frame-got taken touchLimits (contact taken) judged l f t e in
+    let ha = frame-head-law taken taken-law touchLimits judged .sound l (headOf f) (g .after) hl (g .head) .1 in
     record {
-      head = frame-fits strict strict-range strict-law judged l f t hl e;
+      head = frame-fits taken taken-range taken-law judged l f t hl e;
       contacts =
-          all-read (λ b. contact strict) ContactFits (λ b. contact-law strict strict-law .sound) (λ b l c t hl e. contact-read strict strict-range strict-law l c t hl e .fits)
+          all-read (λ b. contact taken) ContactFits (λ b. contact-law taken taken-law .sound) (λ b l c t hl e. contact-read taken taken-range taken-law l c t hl e .fits)
           false _ (g .after) (f .contacts) t ha (g .contacts);
     }
 
-pub body-fits : (judged : Bool) (l : List ℕ) (m : Touch) (t : List ℕ) → Bytes l → body strict judged l ≡ got m t → All (FrameFits ContactFits) (m .frames)
+pub body-fits : (judged : Bool) (l : List ℕ) (m : Touch) (t : List ℕ) → Bytes l → body taken judged l ≡ got m t → All (FrameFits ContactFits) (m .frames)
 unfolding bodyFormat
-body-fits judged l m t hl e = go (touchHead strict .read l) refl
+body-fits judged l m t hl e = go (touchHead taken .read l) refl
   where
-    go : (x : Got BodyHead) → touchHead strict .read l ≡ x → All (FrameFits ContactFits) (m .frames)
+    go : (x : Got BodyHead) → touchHead taken .read l ≡ x → All (FrameFits ContactFits) (m .frames)
     go (bad n) h = never n m t (rw h at e)
     go (got k after) h =
-        let b = body-got strict touchLimits (contact strict) judged l m t k after e h in
-        let ha = body-head-law strict strict-law touchLimits .sound l k after hl h .1 in
-        all-read (frame strict) (FrameFits ContactFits) (λ b. frame-law strict strict-law touchLimits (contact strict) (contact-law strict strict-law) b .sound) frame-read judged (k .frames) after (m .frames) [] ha (b .frames)
+        let b = body-got taken touchLimits (contact taken) judged l m t k after e h in
+        let ha = body-head-law taken taken-law touchLimits .sound l k after hl h .1 in
+        all-read (frame taken) (FrameFits ContactFits) (λ b. frame-law taken taken-law touchLimits (contact taken) (contact-law taken taken-law) b .sound) frame-read judged (k .frames) after (m .frames) [] ha (b .frames)

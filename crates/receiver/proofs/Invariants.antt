@@ -12,7 +12,7 @@ use Rattle.digits.proofs.Laws.{bytes-drop}
 use Rattle.messages.specs.Header.{headerBytes}
 use Rattle.messages.specs.declared.Ready.{Ready}
 use Rattle.formats.specs.Format.{got}
-use Rattle.fields.specs.Integers.{strict}
+use Rattle.fields.specs.Integers.{taken}
 use Rattle.house.specs.Fits.{ContactFits}
 use Rattle.house.specs.declared.Contact.{Contact}
 use Rattle.house.proofs.WellFormed.{never}
@@ -50,7 +50,7 @@ unfolding fresh
 fresh-kept = record { stream = resting-steady touch-law 0 (machineOf fresh) refl; ready = omega arith; unready = λ e. refl }
 
 -- the frames of a message that a receiver reads fit its records
-pub message-fits : (r : Receiver) (l : List ℕ) (m : Touch) (t : List ℕ) → Bytes l → body strict (judged r) (drop headerBytes l) ≡ got m t → All (FrameFits ContactFits) (m .frames)
+pub message-fits : (r : Receiver) (l : List ℕ) (m : Touch) (t : List ℕ) → Bytes l → body taken (judged r) (drop headerBytes l) ≡ got m t → All (FrameFits ContactFits) (m .frames)
 message-fits r l m t hl e = body-fits (judged r) (drop headerBytes l) m t (bytes-drop headerBytes l hl) e
 
 -- a message asks of the stream nothing but what is proper

@@ -11,7 +11,7 @@ use Rattle.paper.specs.Refusals.{none, short, tooLong, unexpected, badLength, t
 use Rattle.slices.specs.Writing.{laid, Draft, bytes, refuse, given, left}
 use Rattle.formats.specs.Format.{Got, got, bad, andThen, Format, done, field, such, when, readSeries, series, ended, whole, readByte, byte, readLittle, little}
 use Rattle.integers.specs.Integer.{Reading, value, refused, tops, signs, countOf, decoded, fewest, furthest, only, decodedOnly, reading}
-use Rattle.fields.specs.Integers.{Shape, gotBy, integer, unsigned, signed, strict}
+use Rattle.fields.specs.Integers.{Shape, gotBy, integer, unsigned, signed, taken}
 use Rattle.house.specs.WellFormed.{has}
 use Rattle.house.specs.Fits.{noSides}
 use Rattle.messages.specs.Header.{headed, clientReady, touch, headerBytes, mostBytes, eventOf, pduLength, oneOf}
@@ -131,28 +131,28 @@ integer-tame h k g =
     let q = signs g in
     record { tame = λ l. got-tame (h .made) (reading k g l) l (only-tame t (decoded t q l) (decoded-tame t q l)) }
 
-u2 : Tamed (strict .u2)
+u2 : Tamed (taken .u2)
 u2 = integer-tame unsigned 1 0
 
-s2 : Tamed (strict .s2)
+s2 : Tamed (taken .s2)
 s2 = integer-tame signed 1 1
 
-u4 : Tamed (strict .u4)
+u4 : Tamed (taken .u4)
 u4 = integer-tame unsigned 2 0
 
-s4 : Tamed (strict .s4)
+s4 : Tamed (taken .s4)
 s4 = integer-tame signed 2 1
 
-u8 : Tamed (strict .u8)
+u8 : Tamed (taken .u8)
 u8 = integer-tame unsigned 3 0
 
 -- ---- the touch message
 
-point-tame : Tamed (point strict)
+point-tame : Tamed (point taken)
 unfolding point
 point-tame = field-tame _ (λ p. p .x) _ s4 λ x. field-tame _ (λ p. p .y) _ s4 λ y. done-tame _
 
-sides-tame : Tamed (sides strict)
+sides-tame : Tamed (sides taken)
 unfolding sides
 sides-tame =
     field-tame _ (λ s. s .left) _ s2 λ left.
@@ -161,54 +161,54 @@ sides-tame =
     field-tame _ (λ s. s .bottom) _ s2 λ bottom.
     done-tame _
 
-optional-tame : (p : ℕ) → Tamed (optional strict p)
+optional-tame : (p : ℕ) → Tamed (optional taken p)
 unfolding optional
 optional-tame p =
-    field-tame _ (λ o. o .sides) _ (when-tame (sides strict) noSides (has 1 p) sides-tame) λ s.
-    field-tame _ (λ o. o .orientation) _ (when-tame (orientation strict) 0 (has 2 p) (such-tame _ _ _ (num badRange tt tt) u4)) λ a.
-    field-tame _ (λ o. o .pressure) _ (when-tame (pressure strict) 0 (has 4 p) (such-tame _ _ _ (num badRange tt tt) u4)) λ r.
+    field-tame _ (λ o. o .sides) _ (when-tame (sides taken) noSides (has 1 p) sides-tame) λ s.
+    field-tame _ (λ o. o .orientation) _ (when-tame (orientation taken) 0 (has 2 p) (such-tame _ _ _ (num badRange tt tt) u4)) λ a.
+    field-tame _ (λ o. o .pressure) _ (when-tame (pressure taken) 0 (has 4 p) (such-tame _ _ _ (num badRange tt tt) u4)) λ r.
     done-tame _
 
-contact-tame : Tamed (contact strict)
+contact-tame : Tamed (contact taken)
 unfolding contact
 contact-tame =
     field-tame _ (λ c. c .id) _ byte-tame λ id.
-    field-tame (present strict) (λ c. c .present) _ (such-tame _ _ _ (num badField tt tt) u2) λ p.
+    field-tame (present taken) (λ c. c .present) _ (such-tame _ _ _ (num badField tt tt) u2) λ p.
     field-tame _ (λ c. c .place) _ point-tame λ place.
-    field-tame (flags strict) (λ c. c .flags) _ (such-tame _ _ _ (num badFlags tt tt) u4) λ f.
+    field-tame (flags taken) (λ c. c .flags) _ (such-tame _ _ _ (num badFlags tt tt) u4) λ f.
     field-tame _ optionalOf _ (optional-tame p) λ o.
     done-tame _
 
-offset-tame : (b : Bool) → Tamed (offset strict b)
+offset-tame : (b : Bool) → Tamed (offset taken b)
 offset-tame true = such-tame _ _ _ (num badOffset tt tt) u8
 offset-tame false = u8
 
-frame-head-tame : (b : Bool) → Tamed (frameHead strict b)
+frame-head-tame : (b : Bool) → Tamed (frameHead taken b)
 unfolding frameHeadFormat
 frame-head-tame b =
-    field-tame (countTo strict mostContacts) (λ h. h .count) _ (such-tame _ _ _ (num badCount tt tt) u2) λ n.
-    field-tame (offset strict b) (λ h. h .offset .0) _ (offset-tame b) λ o.
+    field-tame (countTo taken mostContacts) (λ h. h .count) _ (such-tame _ _ _ (num badCount tt tt) u2) λ n.
+    field-tame (offset taken b) (λ h. h .offset .0) _ (offset-tame b) λ o.
     done-tame _
 
-frame-tame : (b : Bool) → Tamed (frame strict b)
+frame-tame : (b : Bool) → Tamed (frame taken b)
 unfolding frameFormat
 frame-tame b =
-    field-tame (frameHead strict b) headOf _ (frame-head-tame b) λ h.
-    field-tame _ (λ f. f .contacts) _ (series-tame (λ k. contact strict) false (h .count) (λ k. contact-tame)) λ cs.
+    field-tame (frameHead taken b) headOf _ (frame-head-tame b) λ h.
+    field-tame _ (λ f. f .contacts) _ (series-tame (λ k. contact taken) false (h .count) (λ k. contact-tame)) λ cs.
     done-tame _
 
-touch-head-tame : Tamed (touchHead strict)
+touch-head-tame : Tamed (touchHead taken)
 unfolding bodyHeadFormat
 touch-head-tame =
     field-tame _ (λ h. h .time .0) _ u4 λ t.
-    field-tame (countTo strict mostFrames) (λ h. h .frames) _ (such-tame _ _ _ (num badCount tt tt) u2) λ n.
+    field-tame (countTo taken mostFrames) (λ h. h .frames) _ (such-tame _ _ _ (num badCount tt tt) u2) λ n.
     done-tame _
 
-pub touch-tame : (b : Bool) → Tamed (format.touch strict b)
+pub touch-tame : (b : Bool) → Tamed (format.touch taken b)
 unfolding bodyFormat
 touch-tame b =
-    field-tame (touchHead strict) bodyHeadOf _ touch-head-tame λ h.
-    field-tame _ (λ m. m .frames) _ (series-tame (frame strict) b (h .frames) frame-tame) λ fs.
+    field-tame (touchHead taken) bodyHeadOf _ touch-head-tame λ h.
+    field-tame _ (λ m. m .frames) _ (series-tame (frame taken) b (h .frames) frame-tame) λ fs.
     done-tame _
 
 -- ---- the other messages, and the header
@@ -239,7 +239,7 @@ effect-tame r l = and-then (headed (takes r) l) (bodyEffect r) (headed-tame (tak
         by-test (eqb e clientReady) _ _
         (and-then (whole ready trailing b) _ (whole-tame ready ready-tame b) (λ s t. tt))
         (by-test (eqb e touch) _ _
-        (and-then (body strict (judged r) b) _ (whole-tame (format.touch strict (judged r)) (touch-tame (judged r)) b) (λ m t. tt))
+        (and-then (body taken (judged r) b) _ (whole-tame (format.touch taken (judged r)) (touch-tame (judged r)) b) (λ m t. tt))
         (and-then (whole byte trailing b) _ (whole-tame byte byte-tame b) (λ id t. tt)))
 
 -- ---- a refusal

@@ -13,7 +13,7 @@ use Rattle.slices.specs.Writing.{bytes, given}
 use Rattle.formats.specs.Format.{Got, got, bad}
 use Rattle.formats.proofs.Laws.{never}
 use Rattle.digits.specs.Digits.{Bytes}
-use Rattle.fields.specs.Integers.{strict}
+use Rattle.fields.specs.Integers.{taken}
 use Rattle.messages.specs.Header.{headerBytes}
 use Rattle.messages.specs.declared.Ready.{Ready}
 use Rattle.house.specs.declared.Contact.{Contact}
@@ -82,19 +82,19 @@ pub record Taken (r : Receiver) (x : Sent) (e : Effect) : Type 0 where
 abbrev HasRoom : Receiver → Sent → Type 0
 HasRoom r x = answerTo r x .refusal ≡ noRoom → ⊥
 
-pub taken : (r : Receiver) (x : Sent) (e : Effect) (t : List ℕ) → effect r (x .message) ≡ got e t → HasRoom r x → Taken r x e
+pub takes-effect : (r : Receiver) (x : Sent) (e : Effect) (t : List ℕ) → effect r (x .message) ≡ got e t → HasRoom r x → Taken r x e
 unfolding next answerTo wrote receiverAfter answerAfter given
-taken r x e t h = rw h (go (leb (length (e .bytes)) (x .room)) refl)
+takes-effect r x e t h = rw h (go (leb (length (e .bytes)) (x .room)) refl)
   where
     go : (b : Bool) → leb (length (e .bytes)) (x .room) ≡ b → (cond b (answerOf e) (refusal noRoom) .refusal ≡ noRoom → ⊥) → Taken r x e
     go true k u = record { next = rw (h, k); answer = rw (h, k); wrote = rw (h, k) }
     go false k u = absurd (u refl)
 
 -- a touch message
-pub touch-body : (r : Receiver) (l : List ℕ) (m : Touch) (t : List ℕ) → touchIn r l ≡ got m t → (off (r .ready) ≡ false) × (body strict (judged r) (drop headerBytes l) ≡ got m t)
+pub touch-body : (r : Receiver) (l : List ℕ) (m : Touch) (t : List ℕ) → touchIn r l ≡ got m t → (off (r .ready) ≡ false) × (body taken (judged r) (drop headerBytes l) ≡ got m t)
 touch-body r l m t h = go (does r l) h
   where
-    go : {x : Got Effect} {g : Got Touch} → Does r l x g → g ≡ got m t → (off (r .ready) ≡ false) × (body strict (judged r) (drop headerBytes l) ≡ got m t)
+    go : {x : Got Effect} {g : Got Touch} → Does r l x g → g ≡ got m t → (off (r .ready) ≡ false) × (body taken (judged r) (drop headerBytes l) ≡ got m t)
     go (fails n k) e = never k m t e
     go (settles s u k o) e = never k m t e
     go (touches n u o b) e = (o, b ∙ e)
@@ -122,8 +122,8 @@ one-outcome r x y e hx hy = go (effect r (x .message)) refl
         rw (h, k) (refl, refl, refl)
     go (got a t) h =
         let k : effect r (y .message) ≡ got a t = rw (← e) h in
-        let p = taken r x a t h hx in
-        let q = taken r y a t k hy in
+        let p = takes-effect r x a t h hx in
+        let q = takes-effect r y a t k hy in
         (p .next ∙ sym (q .next), p .answer ∙ sym (q .answer), p .wrote ∙ sym (q .wrote))
 
 pub record Same (r : Receiver) (h k : List Sent) : Type 0 where
@@ -195,8 +195,8 @@ module _ (r : Receiver) (k : Kept r) (x y : Sent) (b : Bytes (x .message)) (fs :
   unfolding Roomy written
   as-rested more others same hr hq =
       let q = rested (r .settings) in
-      let tr = taken r x (touched r whole) [] (touch-effect r (x .message) whole [] (c .whole)) (hr .0) in
-      let tq = taken q y (touched q part) [] (touch-effect q (y .message) part [] (c .part)) (hq .0) in
+      let tr = takes-effect r x (touched r whole) [] (touch-effect r (x .message) whole [] (c .whole)) (hr .0) in
+      let tq = takes-effect q y (touched q part) [] (touch-effect q (y .message) part [] (c .part)) (hq .0) in
       let n : next r x ≡ next q y = tr .next ∙ (receivers-same ∙ sym (tq .next)) in
       let w : wrote r x ≡ bytesAt r fs ++ wrote q y = tr .wrote ∙ (bytes-same ∙ ap (λ (s : List ℕ). bytesAt r fs ++ s) (sym (tq .wrote))) in
       let hs : Roomy (next r x) others = rw n (hq .1) in

@@ -14,7 +14,7 @@ use Rattle.slices.specs.Writing.{laid}
 use Rattle.formats.specs.Format.{Got, got, bad, readSeries}
 use Rattle.formats.proofs.Laws.{never}
 use Rattle.formats.proofs.Steps.{tail}
-use Rattle.fields.specs.Integers.{strict}
+use Rattle.fields.specs.Integers.{taken}
 use Rattle.house.specs.declared.Contact.{Contact}
 use Rattle.framing.specs.Frame.{Frame, timedFrames, begunBy}
 use Rattle.touch.specs.Limits.{touchLimits}
@@ -133,12 +133,12 @@ module _ (r : Receiver) (l : List ℕ) (un : Bool) (eu : un ≡ untimed r) (acti
 module _ (r : Receiver) (b : List ℕ) (j : Bool) (ej : j ≡ judged r) (before : List ℕ) (q : Received) where
   pub touch-refused : (x : CheckedBody) (n k : ℕ) → Checks j b x → x ≡ CheckedBody.Refused n → k ≡ checkedRefusal x → q ≡ record { receiver = r; answer = refusal k }
       → Gives r (touchEffect r b) before q before
-  touch-refused x n k c e f a = go (body strict j b) refl (sym (ap checkedGot e) ∙ c .same)
+  touch-refused x n k c e f a = go (body taken j b) refl (sym (ap checkedGot e) ∙ c .same)
     where
-      go : (y : Got Touch) → body strict j b ≡ y → bad n ≡ summary y → Gives r (touchEffect r b) before q before
+      go : (y : Got Touch) → body taken j b ≡ y → bad n ≡ summary y → Gives r (touchEffect r b) before q before
       go (got m t) w s = never n (bodyHeadOf m) t s
       go (bad z) w s =
-          let v : body strict (judged r) b ≡ bad z = rw ej at w in
+          let v : body taken (judged r) b ≡ bad z = rw ej at w in
           let zn : z ≡ n = cc in
           let kn : k ≡ z = f ∙ ap checkedRefusal e ∙ sym zn in
           gives-refused r before q (touchEffect r b) z (rw v) (a ∙ ap (λ (y : ℕ). record { receiver = r; answer = refusal y }) kn)
@@ -148,14 +148,14 @@ module _ (r : Receiver) (b : List ℕ) (j : Bool) (ej : j ≡ judged r) (before 
     it : Checked j b h at
     it = checked j b h at c
 
-    read : body strict (judged r) b ≡ got (it .message) []
-    read = sym (ap (λ (y : Bool). body strict y b) ej) ∙ it .read
+    read : body taken (judged r) b ≡ got (it .message) []
+    read = sym (ap (λ (y : Bool). body taken y b) ej) ∙ it .read
 
     effect-is : touchEffect r b ≡ got (touched r (it .message)) []
     effect-is = let v = read in rw v
 
     frames-are : readSeries frameBy false (h .frames) (take (length b - at) (drop at b)) ≡ got (it .message .frames) []
-    frames-are = rw (tail b at) (frames-freed strict touchLimits (contact strict) j (h .frames) (drop at b) (it .message .frames) [] (it .frames))
+    frames-are = rw (tail b at) (frames-freed taken touchLimits (contact taken) j (h .frames) (drop at b) (it .message .frames) [] (it .frames))
 
     same : mid ≡ before
     same = t .kept (it .message .frames) [] frames-are

@@ -14,7 +14,7 @@ use Rattle.formats.proofs.Laws.{such-got, more-got}
 use Rattle.formats.proofs.Laws as formats
 use Rattle.integers.specs.Integer.{Reading, value, refused, reading, tops, signs, decoded, fewest, furthest, only, decodedOnly}
 use Rattle.integers.proofs.Laws.{reading-inside, never}
-use Rattle.fields.specs.Integers.{Shape, unsigned, signed, gotBy, integer, Integers, strict}
+use Rattle.fields.specs.Integers.{Shape, unsigned, signed, gotBy, integer, Integers, taken}
 use Rattle.house.specs.Fields.{recordBytes}
 use Rattle.house.specs.WellFormed.{has}
 use Rattle.house.specs.Fits.{noSides}
@@ -104,8 +104,8 @@ record Least (i : Integers) : Type 0 where
   s4 : Takes 1 (i .s4)
   u8 : Takes 1 (i .u8)
 
-least-strict : Least strict
-least-strict =
+least-taken : Least taken
+least-taken =
     record {
       u2 = takes-integer unsigned 1 0;
       s2 = takes-integer signed 1 1;
@@ -180,8 +180,8 @@ contacts-take zero l cs t h =
     let d : [] ≡ cs = cc in
     omega (arith, ap length e, ap length d)
 contacts-take (suc n) l cs t h =
-    let m = more-got (λ b. contact strict) false n l cs t h in
-    let a = takes-contact strict least-strict .least l (m .head) (m .after) (m .one) in
+    let m = more-got (λ b. contact taken) false n l cs t h in
+    let a = takes-contact taken least-taken .least l (m .head) (m .after) (m .one) in
     let b = contacts-take n (m .after) (m .rest) t (m .others) in
     omega (arith, a, b, ap length (m .all))
 
@@ -192,23 +192,23 @@ frames-take b zero l fs t h =
     let d : [] ≡ fs = cc in
     omega (arith, ap length e, ap weight d)
 frames-take b (suc n) l fs t h =
-    let m = more-got (frame strict) b n l fs t h in
-    let f = frame-got strict touchLimits (contact strict) b l (m .head) (m .after) (m .one) in
-    let a = takes-frame-head strict least-strict b .least l _ (f .after) (f .head) in
+    let m = more-got (frame taken) b n l fs t h in
+    let f = frame-got taken touchLimits (contact taken) b l (m .head) (m .after) (m .one) in
+    let a = takes-frame-head taken least-taken b .least l _ (f .after) (f .head) in
     let c = contacts-take (length (m .head .contacts)) (f .after) (m .head .contacts) (m .after) (f .contacts) in
     let d = frames-take false n (m .after) (m .rest) t (m .others) in
     omega (arith, a, c, d, ap weight (m .all))
 
 -- a body's frames weigh at most half its bytes
-pub body-weight : (judged : Bool) (l : List ℕ) (m : Touch) (t : List ℕ) → body strict judged l ≡ got m t → 2 * weight (m .frames) ≤ length l
+pub body-weight : (judged : Bool) (l : List ℕ) (m : Touch) (t : List ℕ) → body taken judged l ≡ got m t → 2 * weight (m .frames) ≤ length l
 unfolding bodyFormat
-body-weight judged l m t h = go (touchHead strict .read l) refl
+body-weight judged l m t h = go (touchHead taken .read l) refl
   where
-    go : (x : Got BodyHead) → touchHead strict .read l ≡ x → 2 * weight (m .frames) ≤ length l
+    go : (x : Got BodyHead) → touchHead taken .read l ≡ x → 2 * weight (m .frames) ≤ length l
     go (bad e) w = formats.never e m t (rw w at h)
     go (got g u) w =
-        let b = body-got strict touchLimits (contact strict) judged l m t g u h w in
-        omega (arith, takes-touch-head strict least-strict .least l g u w, frames-take judged (g .frames) u (m .frames) [] (b .frames))
+        let b = body-got taken touchLimits (contact taken) judged l m t g u h w in
+        omega (arith, takes-touch-head taken least-taken .least l g u w, frames-take judged (g .frames) u (m .frames) [] (b .frames))
 
 weight-timed : (b : Bool) (fs : List (Frame Contact)) → weight (timedFrames b fs) ≡ weight fs
 unfolding weight timedFrames
@@ -252,7 +252,7 @@ module _ (rules : Rules Contact) where
 
 -- ---- a touch message: two bytes of its body give at most one record, beside a cancel for each contact
 
-pub touch-small : (r : Receiver) → length (r .states) ≡ contacts → (b : List ℕ) (m : Touch) (t : List ℕ) → body strict (judged r) b ≡ got m t
+pub touch-small : (r : Receiver) → length (r .states) ≡ contacts → (b : List ℕ) (m : Touch) (t : List ℕ) → body taken (judged r) b ≡ got m t
     → length (touched r m .bytes) ≤ recordBytes * (length b / 2 + contacts)
 unfolding touched
 touch-small r h b m t w =

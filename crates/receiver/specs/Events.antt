@@ -8,7 +8,7 @@ use Rattle.paper.specs.Refusals.{none, trailing}
 use Rattle.paper.specs.declared.Milliseconds.{Milliseconds}
 use Rattle.slices.specs.Writing.{laid, given, left}
 use Rattle.formats.specs.Format.{Got, got, andThen, whole, byte, readSeries}
-use Rattle.fields.specs.Integers.{strict}
+use Rattle.fields.specs.Integers.{taken}
 use Rattle.house.specs.Fields.{recordBytes}
 use Rattle.messages.specs.Bodies.{ready}
 use Rattle.house.specs.declared.Contact.{Contact}
@@ -52,7 +52,7 @@ abbrev pub readyEffect : Receiver → List ℕ → Got Effect
 readyEffect r b = andThen (whole ready trailing b) (λ s t. got (settled r s) t)
 
 abbrev pub touchEffect : Receiver → List ℕ → Got Effect
-touchEffect r b = andThen (body strict (judged r) b) (λ m t. got (touched r m) t)
+touchEffect r b = andThen (body taken (judged r) b) (λ m t. got (touched r m) t)
 
 abbrev pub dismissEffect : Receiver → List ℕ → Got Effect
 dismissEffect r b = andThen (whole byte trailing b) (λ id t. got (dismissedBy r id) t)
@@ -62,18 +62,18 @@ dismissEffect r b = andThen (whole byte trailing b) (λ id t. got (dismissedBy r
 -- the n frames at the front of l, run dry: how many records they give
 pub record Tallies (r : Receiver) (n : ℕ) (l : List ℕ) (records : ℕ) (before after : List ℕ) : Type 0 where
   pub small : records ≤ mostRecords
-  pub count : (fs : List (Frame Contact)) (rest : List ℕ) → readSeries (λ b. frame strict b .read) false n l ≡ got fs rest
+  pub count : (fs : List (Frame Contact)) (rest : List ℕ) → readSeries (λ b. frame taken b .read) false n l ≡ got fs rest
       → recordBytes * records ≡ length (runBytes touchView (rulesOf r) (machineOf r) (timedFrames (untimed r) fs))
-  pub kept : (fs : List (Frame Contact)) (rest : List ℕ) → readSeries (λ b. frame strict b .read) false n l ≡ got fs rest → after ≡ before
+  pub kept : (fs : List (Frame Contact)) (rest : List ℕ) → readSeries (λ b. frame taken b .read) false n l ≡ got fs rest → after ≡ before
 
 -- whether there is room for their records, where the frames are all that a body of so many bytes holds
 pub record Rooms (r : Receiver) (n : ℕ) (l : List ℕ) (bodyBytes : ℕ) (roomy : Bool) (before after : List ℕ) : Type 0 where
-  pub short : roomy ≡ false → (fs : List (Frame Contact)) (rest : List ℕ) → readSeries (λ b. frame strict b .read) false n l ≡ got fs rest
+  pub short : roomy ≡ false → (fs : List (Frame Contact)) (rest : List ℕ) → readSeries (λ b. frame taken b .read) false n l ≡ got fs rest
       → length before < length (runBytes touchView (rulesOf r) (machineOf r) (timedFrames (untimed r) fs))
-  pub enough : roomy ≡ true → (fs : List (Frame Contact)) (rest : List ℕ) → readSeries (λ b. frame strict b .read) false n l ≡ got fs rest
+  pub enough : roomy ≡ true → (fs : List (Frame Contact)) (rest : List ℕ) → readSeries (λ b. frame taken b .read) false n l ≡ got fs rest
       → length (runBytes touchView (rulesOf r) (machineOf r) (timedFrames (untimed r) fs)) ≤ recordBytes * (bodyBytes / 2 + contacts)
       → length (runBytes touchView (rulesOf r) (machineOf r) (timedFrames (untimed r) fs)) ≤ length before
-  pub kept : (fs : List (Frame Contact)) (rest : List ℕ) → readSeries (λ b. frame strict b .read) false n l ≡ got fs rest → after ≡ before
+  pub kept : (fs : List (Frame Contact)) (rest : List ℕ) → readSeries (λ b. frame taken b .read) false n l ≡ got fs rest → after ≡ before
 
 -- an effect, carried out
 pub record Carried (e : Effect) (before : List ℕ) (q : Received) (after : List ℕ) : Type 0 where
@@ -83,5 +83,5 @@ pub record Carried (e : Effect) (before : List ℕ) (q : Received) (after : List
 -- the frames of a head at the front of l, carried out where there is room
 pub record Carries (r : Receiver) (h : BodyHead) (l before : List ℕ) (q : Received) (after : List ℕ) : Type 0 where
   pub whole : length (r .states) ≡ contacts
-  pub carried : (m : Touch) (rest : List ℕ) → h ≡ bodyHeadOf m → readSeries (λ b. frame strict b .read) false (h .frames) l ≡ got (m .frames) rest
+  pub carried : (m : Touch) (rest : List ℕ) → h ≡ bodyHeadOf m → readSeries (λ b. frame taken b .read) false (h .frames) l ≡ got (m .frames) rest
       → length (touched r m .bytes) ≤ length before → Carried (touched r m) before q after

@@ -9,7 +9,7 @@ use Rattle.paper.specs.declared.Milliseconds.{Milliseconds}
 use Rattle.digits.specs.Digits.{Bytes}
 use Rattle.slices.specs.Writing.{Draft, bytes, refuse, given}
 use Rattle.formats.specs.Format.{Got, got, bad, andThen}
-use Rattle.fields.specs.Integers.{strict}
+use Rattle.fields.specs.Integers.{taken}
 use Rattle.states.specs.Table.{next as nextState}
 use Rattle.house.specs.Layout.{recordOf}
 use Rattle.house.specs.declared.Point.{Point}
@@ -101,7 +101,7 @@ tableOf r = machineOf r .table
 
 -- a touch message, as the receiver reads it; no other message is one
 unfoldable pub touchIn : Receiver → List ℕ → Got Touch
-touchIn r l = andThen (headed (takes r) l) (λ e b. cond (eqb e touch) (body strict (judged r) b) (bad none))
+touchIn r l = andThen (headed (takes r) l) (λ e b. cond (eqb e touch) (body taken (judged r) b) (bad none))
 
 abbrev pub framesOf : Got Touch → List (Frame Contact)
 framesOf (got m t) = m .frames
@@ -147,7 +147,7 @@ rested s = withTable (record { ready = 1; begun = 1; ignoring = 0; settings = s;
 
 -- the bytes of a touch message
 abbrev pub messageOf : Touch → List ℕ
-messageOf m = writeMessage touch (format.touch strict false) m
+messageOf m = writeMessage touch (format.touch taken false) m
 
 -- "Where demand 3's opening frame is inside a message, the rested receiver gets a message of the same encodeTime that begins with that
 -- frame": x has the frame f after fs and before gs, and y begins with it

@@ -9,7 +9,7 @@ use Rattle.paper.specs.Refusals.{none, noRoom, trailing}
 use Rattle.paper.specs.declared.Milliseconds.{Milliseconds}
 use Rattle.slices.specs.Writing.{Draft, bytes, refuse, given, left}
 use Rattle.formats.specs.Format.{Got, got, bad, andThen, whole, byte}
-use Rattle.fields.specs.Integers.{strict}
+use Rattle.fields.specs.Integers.{taken}
 use Rattle.house.specs.Fields.{recordBytes}
 use Rattle.messages.specs.Header.{headed, clientReady, touch, dismiss}
 use Rattle.messages.specs.Bodies.{ready}
@@ -112,7 +112,7 @@ takes r = cond (off (r .ready)) (clientReady ∷ []) (touch ∷ dismiss ∷ [])
 abbrev pub bodyEffect : Receiver → ℕ → List ℕ → Got Effect
 bodyEffect r e b =
     cond (eqb e clientReady) (andThen (whole ready trailing b) (λ s t. got (settled r s) t))
-    (cond (eqb e touch) (andThen (body strict (judged r) b) (λ m t. got (touched r m) t))
+    (cond (eqb e touch) (andThen (body taken (judged r) b) (λ m t. got (touched r m) t))
     (andThen (whole byte trailing b) (λ id t. got (dismissedBy r id) t)))
 
 unfoldable pub effect : Receiver → List ℕ → Got Effect

@@ -6,7 +6,7 @@ use mathlib.Core.List.{List, _++_}
 use lib.ListN.{length}
 use Rattle.slices.specs.Writing.{laid}
 use Rattle.formats.specs.Format.{got, readSeries}
-use Rattle.fields.specs.Integers.{strict}
+use Rattle.fields.specs.Integers.{taken}
 use Rattle.house.specs.Layout.{headBytes}
 use Rattle.house.specs.Fields.{recordBytes}
 use Rattle.house.specs.declared.Head.{Head}
@@ -127,5 +127,5 @@ mostRecords = 16711680
 -- only the bound is said.
 pub record Runs (n : ℕ) (l : List ℕ) (untimed wet running : Bool) (rules : Rules Contact) (active : ℕ) (r : Run) (t u : Table) (before after : List ℕ) : Type 0 where
   pub small : r .records ≤ mostRecords
-  pub ran : (fs : List (Frame Contact)) (rest : List ℕ) → readSeries (λ b. frame strict b .read) false n l ≡ got fs rest → Counted active (t .states)
+  pub ran : (fs : List (Frame Contact)) (rest : List ℕ) → readSeries (λ b. frame taken b .read) false n l ≡ got fs rest → Counted active (t .states)
       → Ran rules (timedFrames untimed fs) wet running r t u before after

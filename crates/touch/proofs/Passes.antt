@@ -7,7 +7,7 @@ use mathlib.Core.List.{List, []}
 use lib.ListN.{drop}
 use Rattle.formats.specs.Format.{Got, got, bad, readSeries}
 use Rattle.formats.proofs.Laws.{never}
-use Rattle.fields.specs.Integers.{strict}
+use Rattle.fields.specs.Integers.{taken}
 use Rattle.house.specs.declared.Contact.{Contact}
 use Rattle.framing.specs.declared.BodyHead.{BodyHead}
 use Rattle.touch.specs.declared.CheckedBody.the-variants as CheckedBody
@@ -20,23 +20,23 @@ use Rattle.touch.specs.Answer.{Checks}
 
 -- the readings of frames and of contacts, as series take them
 abbrev pub frameBy : Bool → List ℕ → Got (Frame Contact)
-frameBy b = frame strict b .read
+frameBy b = frame taken b .read
 
 abbrev pub contactBy : Bool → List ℕ → Got Contact
-contactBy b = contact strict .read
+contactBy b = contact taken .read
 
 -- a body that was checked: the message, and its frames where they begin
 pub record Checked (judged : Bool) (l : List ℕ) (h : BodyHead) (at : ℕ) : Type 0 where
   pub message : Touch
-  pub read : body strict judged l ≡ got message []
+  pub read : body taken judged l ≡ got message []
   pub head : h ≡ bodyHeadOf message
   pub frames : readSeries frameBy judged (h .frames) (drop at l) ≡ got (message .frames) []
 
 pub checked : (judged : Bool) (l : List ℕ) (h : BodyHead) (at : ℕ) → Checks judged l (CheckedBody.Body h at) → Checked judged l h at
-checked judged l h at c = go (body strict judged l) refl (c .same)
+checked judged l h at c = go (body taken judged l) refl (c .same)
   where
-    go : (x : Got Touch) → body strict judged l ≡ x → got h [] ≡ summary x → Checked judged l h at
+    go : (x : Got Touch) → body taken judged l ≡ x → got h [] ≡ summary x → Checked judged l h at
     go (bad x) w e = never x h [] (sym e)
     go (got m t) w e =
-        let b = body-got strict touchLimits (contact strict) judged l m t h (drop at l) w (c .begins .head) in
+        let b = body-got taken touchLimits (contact taken) judged l m t h (drop at l) w (c .begins .head) in
         record { message = m; read = rw (b .ends) at w; head = b .head; frames = b .frames }

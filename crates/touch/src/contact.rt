@@ -12,13 +12,13 @@ use house::has_field;
 use integers::ReadU2;
 use integers::ReadU4;
 ghost use Rattle.formats.specs.Answer.{Answers};
-ghost use Rattle.fields.specs.Integers.{strict};
+ghost use Rattle.fields.specs.Integers.{taken};
 ghost use Rattle.touch.specs.Touch.{optional, contact};
 ghost use Rattle.touch.specs.Answer.{optionalGot, optionalLength, contactGot, contactLength};
 
 // The fields that fieldsPresent says are there.
 fn read_optional(rest: &[u8], present: u16) -> ReadOptional
-    ensures { λ r. ⌜ Answers (optional strict present) (now (rest .entry)) (optionalGot r (now (rest .entry))) (optionalLength r) ⌝ }
+    ensures { λ r. ⌜ Answers (optional taken present) (now (rest .entry)) (optionalGot r (now (rest .entry))) (optionalLength r) ⌝ }
 {
     let got_sides = parts::read_sides(rest, has_field(present, 1));
     let ReadSides::Value(sides, at_turn) = got_sides else {
@@ -43,7 +43,7 @@ fn read_optional(rest: &[u8], present: u16) -> ReadOptional
 
 // A contact, from its first byte.
 pub fn read_contact(rest: &[u8]) -> ReadContact
-    ensures { λ r. ⌜ Answers (contact strict) (now (rest .entry)) (contactGot r (now (rest .entry))) (contactLength r) ⌝ }
+    ensures { λ r. ⌜ Answers (contact taken) (now (rest .entry)) (contactGot r (now (rest .entry))) (contactLength r) ⌝ }
 {
     if rest.len() < 1 {
         return ReadContact::Refused(paper::TRUNCATED);

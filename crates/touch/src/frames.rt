@@ -16,7 +16,7 @@ use paper::Microseconds;
 use paper::Milliseconds;
 ghost use Rattle.formats.specs.Answer.{Answers, skip};
 ghost use Rattle.formats.specs.Format.{series, times};
-ghost use Rattle.fields.specs.Integers.{strict};
+ghost use Rattle.fields.specs.Integers.{taken};
 ghost use Rattle.fields.specs.Answer.{lengthOf, u2Got, u8Got};
 ghost use Rattle.integers.specs.Answer.{u2Of, u8Of};
 ghost use Rattle.framing.specs.Format.{countTo, offset};
@@ -25,7 +25,7 @@ ghost use Rattle.touch.specs.Answer.{headGot, headLength, touchHeadGot, 
 
 // contactCount and frameCount: at most so many.
 fn read_count(rest: &[u8], most: u16) -> ReadU2
-    ensures { λ r. ⌜ Answers (countTo strict most) (now (rest .entry)) (u2Got r (now (rest .entry))) (lengthOf (u2Of r)) ⌝ }
+    ensures { λ r. ⌜ Answers (countTo taken most) (now (rest .entry)) (u2Got r (now (rest .entry))) (lengthOf (u2Of r)) ⌝ }
 {
     let got = integers::read_u2(rest);
     let ReadU2::Value(n, _) = got else {
@@ -39,7 +39,7 @@ fn read_count(rest: &[u8], most: u16) -> ReadU2
 
 // frameOffset: 0 where 11 is judged.
 fn read_offset(rest: &[u8], judged: bool) -> ReadU8
-    ensures { λ r. ⌜ Answers (offset strict judged) (now (rest .entry)) (u8Got r (now (rest .entry))) (lengthOf (u8Of r)) ⌝ }
+    ensures { λ r. ⌜ Answers (offset taken judged) (now (rest .entry)) (u8Got r (now (rest .entry))) (lengthOf (u8Of r)) ⌝ }
 {
     let got = integers::read_u8(rest);
     let ReadU8::Value(o, _) = got else {
@@ -56,7 +56,7 @@ fn read_offset(rest: &[u8], judged: bool) -> ReadU8
 
 // What stands before a frame's contacts.
 pub fn read_frame_head(rest: &[u8], judged: bool) -> ReadHead
-    ensures { λ r. ⌜ Answers (frameHead strict judged) (now (rest .entry)) (headGot r (now (rest .entry))) (headLength r) ⌝ }
+    ensures { λ r. ⌜ Answers (frameHead taken judged) (now (rest .entry)) (headGot r (now (rest .entry))) (headLength r) ⌝ }
 {
     let got_count = read_count(rest, CONTACTS_MOST);
     let ReadU2::Value(count, at_offset) = got_count else {
@@ -75,7 +75,7 @@ pub fn read_frame_head(rest: &[u8], judged: bool) -> ReadHead
 
 // Where n contacts end, or the first fault.
 pub fn skip_contacts(rest: &[u8], n: usize) -> End
-    ensures { λ r. ⌜ Answers (skip (times n (contact strict))) (now (rest .entry)) (endGot r (now (rest .entry))) (endLength r) ⌝ }
+    ensures { λ r. ⌜ Answers (skip (times n (contact taken))) (now (rest .entry)) (endGot r (now (rest .entry))) (endLength r) ⌝ }
 {
     let mut at: usize = 0;
     let mut left = n;
@@ -92,7 +92,7 @@ pub fn skip_contacts(rest: &[u8], n: usize) -> End
 
 // Where a frame ends, or its first fault.
 fn skip_frame(rest: &[u8], judged: bool) -> End
-    ensures { λ r. ⌜ Answers (skip (frame strict judged)) (now (rest .entry)) (endGot r (now (rest .entry))) (endLength r) ⌝ }
+    ensures { λ r. ⌜ Answers (skip (frame taken judged)) (now (rest .entry)) (endGot r (now (rest .entry))) (endLength r) ⌝ }
 {
     let got_head = read_frame_head(rest, judged);
     let ReadHead::Value(head, at) = got_head else {
@@ -107,7 +107,7 @@ fn skip_frame(rest: &[u8], judged: bool) -> End
 
 // Where n frames end, or the first fault. 11 is judged on the first frame alone.
 fn skip_frames(rest: &[u8], n: usize, judged: bool) -> End
-    ensures { λ r. ⌜ Answers (skip (series (frame strict) judged n)) (now (rest .entry)) (endGot r (now (rest .entry))) (endLength r) ⌝ }
+    ensures { λ r. ⌜ Answers (skip (series (frame taken) judged n)) (now (rest .entry)) (endGot r (now (rest .entry))) (endLength r) ⌝ }
 {
     let mut at: usize = 0;
     let mut left = n;
@@ -126,7 +126,7 @@ fn skip_frames(rest: &[u8], n: usize, judged: bool) -> End
 
 // What stands before a message's frames.
 pub fn read_touch_head(rest: &[u8]) -> ReadTouchHead
-    ensures { λ r. ⌜ Answers (touchHead strict) (now (rest .entry)) (touchHeadGot r (now (rest .entry))) (touchHeadLength r) ⌝ }
+    ensures { λ r. ⌜ Answers (touchHead taken) (now (rest .entry)) (touchHeadGot r (now (rest .entry))) (touchHeadLength r) ⌝ }
 {
     let got_time = integers::read_u4(rest);
     let ReadU4::Value(time, at_count) = got_time else {

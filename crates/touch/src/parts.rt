@@ -11,7 +11,7 @@ ghost use Rattle.formats.specs.Answer.{Answers};
 ghost use lib.Dec.{leb};
 ghost use Rattle.paper.specs.Refusals.{badRange};
 ghost use Rattle.formats.specs.Format.{such, when};
-ghost use Rattle.fields.specs.Integers.{strict};
+ghost use Rattle.fields.specs.Integers.{taken};
 ghost use Rattle.fields.specs.Answer.{lengthOf, u2Got, u4Got};
 ghost use Rattle.integers.specs.Answer.{u2Of, u4Of};
 ghost use Rattle.touch.specs.Touch.{present, point, flags, sides};
@@ -20,7 +20,7 @@ ghost use Rattle.touch.specs.Answer.{pointGot, pointLength, sidesGot, si
 
 // fieldsPresent: bits 1, 2 and 4 only.
 pub(crate) fn read_present(rest: &[u8]) -> ReadU2
-    ensures { λ r. ⌜ Answers (present strict) (now (rest .entry)) (u2Got r (now (rest .entry))) (lengthOf (u2Of r)) ⌝ }
+    ensures { λ r. ⌜ Answers (present taken) (now (rest .entry)) (u2Got r (now (rest .entry))) (lengthOf (u2Of r)) ⌝ }
 {
     let got = integers::read_u2(rest);
     let ReadU2::Value(p, _) = got else {
@@ -34,7 +34,7 @@ pub(crate) fn read_present(rest: &[u8]) -> ReadU2
 
 // contactFlags: one of the state table's values.
 pub(crate) fn read_flags(rest: &[u8]) -> ReadU4
-    ensures { λ r. ⌜ Answers (flags strict) (now (rest .entry)) (u4Got r (now (rest .entry))) (lengthOf (u4Of r)) ⌝ }
+    ensures { λ r. ⌜ Answers (flags taken) (now (rest .entry)) (u4Got r (now (rest .entry))) (lengthOf (u4Of r)) ⌝ }
 {
     let got = integers::read_u4(rest);
     let ReadU4::Value(f, _) = got else {
@@ -48,7 +48,7 @@ pub(crate) fn read_flags(rest: &[u8]) -> ReadU4
 
 // A number that is there or 0, at most so great: orientation or pressure.
 pub(crate) fn read_up_to(rest: &[u8], there: bool, most: u16) -> ReadU4
-    ensures { λ r. ⌜ Answers (when there (such (strict .u4) (λ v. leb v most) badRange) 0) (now (rest .entry)) (u4Got r (now (rest .entry))) (lengthOf (u4Of r)) ⌝ }
+    ensures { λ r. ⌜ Answers (when there (such (taken .u4) (λ v. leb v most) badRange) 0) (now (rest .entry)) (u4Got r (now (rest .entry))) (lengthOf (u4Of r)) ⌝ }
 {
     if there {
         let got = integers::read_u4(rest);
@@ -66,7 +66,7 @@ pub(crate) fn read_up_to(rest: &[u8], there: bool, most: u16) -> ReadU4
 
 // x and y.
 pub(crate) fn read_point(rest: &[u8]) -> ReadPoint
-    ensures { λ r. ⌜ Answers (point strict) (now (rest .entry)) (pointGot r (now (rest .entry))) (pointLength r) ⌝ }
+    ensures { λ r. ⌜ Answers (point taken) (now (rest .entry)) (pointGot r (now (rest .entry))) (pointLength r) ⌝ }
 {
     let got_x = integers::read_s4(rest);
     let ReadS4::Value(x, at_y) = got_x else {
@@ -81,7 +81,7 @@ pub(crate) fn read_point(rest: &[u8]) -> ReadPoint
 
 // left, top, right and bottom.
 fn read_four(rest: &[u8]) -> ReadSides
-    ensures { λ r. ⌜ Answers (sides strict) (now (rest .entry)) (sidesGot r (now (rest .entry))) (sidesLength r) ⌝ }
+    ensures { λ r. ⌜ Answers (sides taken) (now (rest .entry)) (sidesGot r (now (rest .entry))) (sidesLength r) ⌝ }
 {
     let got_left = integers::read_s2(rest);
     let ReadS2::Value(left, at_top) = got_left else {
@@ -112,7 +112,7 @@ fn read_four(rest: &[u8]) -> ReadSides
 
 // The sides, where they are there.
 pub(crate) fn read_sides(rest: &[u8], there: bool) -> ReadSides
-    ensures { λ r. ⌜ Answers (when there (sides strict) noSides) (now (rest .entry)) (sidesGot r (now (rest .entry))) (sidesLength r) ⌝ }
+    ensures { λ r. ⌜ Answers (when there (sides taken) noSides) (now (rest .entry)) (sidesGot r (now (rest .entry))) (sidesLength r) ⌝ }
 {
     if there {
         return read_four(rest);

@@ -7,17 +7,18 @@ use mathlib.Core.List.{List, [], _∷_}
 use native.Mathlib.Omega.{arith}
 use borrow.Author.Tests.{lt-ltb, le-leb}
 use lib.Dec.{leb}
+use lib.IntN.{ℤ, natAbs}
 use Rattle.paper.specs.Refusals.{badRange}
 use Rattle.formats.specs.Format.{Each, HoldsWhen, such}
 use Rattle.integers.specs.Integer.{limit}
-use Rattle.fields.specs.Integers.{strict}
+use Rattle.fields.specs.Integers.{taken}
 use Rattle.house.specs.Fits.{HeadFits, InRange, noSides}
-use Rattle.house.specs.WellFormed.{has, orientationMost, pressureMost}
+use Rattle.house.specs.WellFormed.{has, orientationMost, pressureMost, sideMost}
 use Rattle.house.specs.declared.Head.{Head}
 use Rattle.house.specs.declared.Contact.{Contact}
 use Rattle.house.proofs.WellFormed.{in-range}
 use Rattle.framing.specs.Frame.{Frame, headOf}
-use Rattle.fields.proofs.Laws.{strict-range}
+use Rattle.fields.proofs.Laws.{taken-range}
 use Rattle.framing.specs.Format.{frameFormat, frameHeadFormat}
 use Rattle.touch.specs.Limits.{mostContacts}
 use Rattle.touch.specs.Touch.{point, sides, orientation, pressure, optional, contact, frameHead, frame}
@@ -34,29 +35,30 @@ each-held P Q h (suc n) (a ∷ s) e = (h a (e .0), each-held P Q h n s (e .1))
 
 -- ---- what a message holds, records hold
 
-pub contact-packs : (c : Contact) → contact strict .Holds c → contactRecord .Holds c
-contact-packs c h = (contact-fits strict strict-range c h, contact-well strict strict-range c h)
+pub contact-packs : (c : Contact) → contact taken .Holds c → contactRecord .Holds c
+contact-packs c h = (contact-fits taken taken-range c h, contact-well taken taken-range c h)
 
-pub frame-packs : (f : Frame Contact) → frame strict false .Holds f → frameRecords .Holds f
+pub frame-packs : (f : Frame Contact) → frame taken false .Holds f → frameRecords .Holds f
 unfolding frameFormat frameRecords
-frame-packs f h = (frame-holds strict strict-range false f h, (each-held (λ b. contact strict .Holds) (λ b. contactRecord .Holds) contact-packs _ (f .contacts) (h .1 .0), refl))
+frame-packs f h = (frame-holds taken taken-range false f h, (each-held (λ b. contact taken .Holds) (λ b. contactRecord .Holds) contact-packs _ (f .contacts) (h .1 .0), refl))
 
-pub frames-pack : (n : ℕ) (fs : List (Frame Contact)) → Each (λ b. frame strict b .Holds) false n fs → Each (λ b. frameRecords .Holds) false n fs
-frames-pack = each-held (λ b. frame strict b .Holds) (λ b. frameRecords .Holds) frame-packs
+pub frames-pack : (n : ℕ) (fs : List (Frame Contact)) → Each (λ b. frame taken b .Holds) false n fs → Each (λ b. frameRecords .Holds) false n fs
+frames-pack = each-held (λ b. frame taken b .Holds) (λ b. frameRecords .Holds) frame-packs
 
 -- ---- and what records hold, a message holds
 
-sides-held : (there : Bool) (c : Contact) → InRange c → (there ≡ false → c .sides ≡ noSides) → HoldsWhen there (sides strict .Holds) noSides (c .sides)
+sides-held : (there : Bool) (c : Contact) → InRange c → (there ≡ false → c .sides ≡ noSides) → HoldsWhen there (sides taken .Holds) noSides (c .sides)
 unfolding sides
 sides-held true c r a =
-    (omega (arith, r .left), (omega (arith, r .top), (omega (arith, r .right), (omega (arith, r .bottom), refl))))
+    let one : (z : ℤ) → natAbs z ≤ sideMost → taken .s2 .Holds z = λ z k. taken-range .s2 z .1 (omega arith) in
+    (one (c .sides .left) (r .left), (one (c .sides .top) (r .top), (one (c .sides .right) (r .right), (one (c .sides .bottom) (r .bottom), refl))))
 sides-held false c r a = a refl
 
-number-held : (there : Bool) (most v : ℕ) → v ≤ most → most < limit 2 0 → (there ≡ false → v ≡ 0) → HoldsWhen there (such (strict .u4) (λ v. leb v most) badRange .Holds) 0 v
-number-held true most v h k a = (omega arith, le-leb _ _ h)
+number-held : (there : Bool) (most v : ℕ) → v ≤ most → most < limit 2 0 → (there ≡ false → v ≡ 0) → HoldsWhen there (such (taken .u4) (λ v. leb v most) badRange .Holds) 0 v
+number-held true most v h k a = (taken-range .u4 v .1 (omega arith), le-leb _ _ h)
 number-held false most v h k a = a refl
 
-pub contact-writes : (c : Contact) → contactRecord .Holds c → contact strict .Holds c
+pub contact-writes : (c : Contact) → contactRecord .Holds c → contact taken .Holds c
 unfolding contact point optional
 contact-writes c h =
     let f = h .0 in
@@ -68,27 +70,27 @@ contact-writes c h =
     let pr = f .present in (
       f .id,
       (
-        (omega (arith, pr), lt-ltb _ _ pr),
+        (taken-range .u2 (c .present) .1 (omega (arith, pr)), lt-ltb _ _ pr),
         (
-          (omega (arith, r .x), (omega (arith, r .y), refl)),
+          (taken-range .s4 (c .place .x) .1 (omega (arith, r .x)), (taken-range .s4 (c .place .y) .1 (omega (arith, r .y)), refl)),
           (
-            (omega (arith, fl), r .flags),
+            (taken-range .u4 (c .flags) .1 (omega (arith, fl)), r .flags),
             ((s, (o, (p, refl))), refl),
           ),
         ),
       ),
     )
 
-pub head-writes : (h : Head) → HeadFits h → frameHead strict false .Holds h
+pub head-writes : (h : Head) → HeadFits h → frameHead taken false .Holds h
 unfolding frameHeadFormat
 head-writes h f =
     let n = f .count in
-    ((omega (arith, n), le-leb (h .count) mostContacts (omega (arith, n))), (f .offset, refl))
+    ((taken-range .u2 (h .count) .1 (omega (arith, n)), le-leb (h .count) mostContacts (omega (arith, n))), (taken-range .u8 (h .offset .0) .1 (f .offset), refl))
 
-pub frame-writes : (f : Frame Contact) → frameRecords .Holds f → frame strict false .Holds f
+pub frame-writes : (f : Frame Contact) → frameRecords .Holds f → frame taken false .Holds f
 unfolding frameFormat frameRecords
 frame-writes f h =
-    (head-writes (headOf f) (h .0), (each-held (λ b. contactRecord .Holds) (λ b. contact strict .Holds) contact-writes _ (f .contacts) (h .1 .0), refl))
+    (head-writes (headOf f) (h .0), (each-held (λ b. contactRecord .Holds) (λ b. contact taken .Holds) contact-writes _ (f .contacts) (h .1 .0), refl))
 
-pub frames-write : (n : ℕ) (fs : List (Frame Contact)) → Each (λ b. frameRecords .Holds) false n fs → Each (λ b. frame strict b .Holds) false n fs
-frames-write = each-held (λ b. frameRecords .Holds) (λ b. frame strict b .Holds) frame-writes
+pub frames-write : (n : ℕ) (fs : List (Frame Contact)) → Each (λ b. frameRecords .Holds) false n fs → Each (λ b. frame taken b .Holds) false n fs
+frames-write = each-held (λ b. frameRecords .Holds) (λ b. frame taken b .Holds) frame-writes

@@ -15,16 +15,17 @@ use Rattle.digits.specs.Digits.{Bytes}
 use Rattle.slices.specs.Writing.{Draft, bytes, refuse}
 use Rattle.formats.specs.Format.{Got, got, bad}
 use Rattle.integers.specs.Integer.{limit}
-use Rattle.fields.specs.Integers.{strict}
+use Rattle.fields.specs.Integers.{taken, strict}
 use Rattle.messages.specs.Header.{headerBytes, mostBytes, writeMessage}
 use Rattle.messages.specs.Header as event
 use Rattle.messages.proofs.Laws.{header-long, message-got, message-back, message-exact, message-sound}
 use Rattle.touch.specs.Limits.{mostFrames}
 use Rattle.house.specs.declared.Contact.{Contact}
 use Rattle.framing.specs.Frame.{Frame, framesBytes}
+use Rattle.fields.proofs.Laws.{taken-law, taken-range}
 use Rattle.framing.specs.Format.{bodyFormat, bodyHeadFormat}
 use Rattle.touch.specs.Touch.{Touch, touch, touchRecord}
-use Rattle.touch.proofs.Laws.{strict-touch-law}
+use Rattle.touch.proofs.Laws.{strict-touch-law, touch-law}
 use Rattle.writing.specs.Records.{framesIn}
 use Rattle.reading.specs.Plain.{plainly}
 use Rattle.writing.specs.TouchDraft.{messageOf, framesDraft, recordsDraft, touchDraft}
@@ -33,29 +34,29 @@ use Rattle.writing.proofs.Held.{frames-pack, frames-write}
 
 -- ---- what a body that can be written is
 
-pub record Body (m : Touch) : Type 0 where
+pub record BodyFits (m : Touch) : Type 0 where
   pub time : m .time .0 < limit 2 0
   pub count : length (m .frames) ≤ mostFrames
   pub frames : FramesFit (m .frames)
 
-body-is : (m : Touch) → touch strict false .Holds m → Body m
+body-is : (m : Touch) → touch taken false .Holds m → BodyFits m
 unfolding bodyFormat bodyHeadFormat
 body-is m h =
-    record { time = h .0 .0; count = leb-true _ _ (h .0 .1 .0 .1); frames = frames-pack (length (m .frames)) (m .frames) (h .1 .0) }
+    record { time = taken-range .u4 (m .time .0) .0 (h .0 .0); count = leb-true _ _ (h .0 .1 .0 .1); frames = frames-pack (length (m .frames)) (m .frames) (h .1 .0) }
 
-body-holds : (m : Touch) → Body m → touch strict false .Holds m
+body-holds : (m : Touch) → BodyFits m → touch taken false .Holds m
 unfolding bodyFormat bodyHeadFormat
 body-holds m b =
     let n = b .count in
-    ((b .time, ((omega (arith, n), le-leb _ _ n), refl)), (frames-write (length (m .frames)) (m .frames) (b .frames), refl))
+    ((taken-range .u4 (m .time .0) .1 (b .time), ((taken-range .u2 (length (m .frames)) .1 (omega (arith, n)), le-leb _ _ n), refl)), (frames-write (length (m .frames)) (m .frames) (b .frames), refl))
 
-message-long : (time : Milliseconds) (fs : List (Frame Contact)) → length (messageOf time fs) ≡ headerBytes + length (touch strict false .write (record { time = time; frames = fs }))
+message-long : (time : Milliseconds) (fs : List (Frame Contact)) → length (messageOf time fs) ≡ headerBytes + length (touch taken false .write (record { time = time; frames = fs }))
 unfolding writeMessage
 message-long time fs = header-long event.touch _ _
 
 -- ---- the draft, where each check passes
 
-draft-is : (m : Touch) (records : List ℕ) → Body m → framesIn records ≡ got (m .frames) [] → length (messageOf (m .time) (m .frames)) ≤ mostBytes
+draft-is : (m : Touch) (records : List ℕ) → BodyFits m → framesIn records ≡ got (m .frames) [] → length (messageOf (m .time) (m .frames)) ≤ mostBytes
     → touchDraft (m .time) records ≡ bytes (messageOf (m .time) (m .frames))
 unfolding touchDraft framesDraft
 draft-is m records b e k = rw (lt-ltb _ _ (b .time), e, le-leb _ _ (b .count), le-leb _ _ k)
@@ -64,9 +65,9 @@ draft-is m records b e k = rw (lt-ltb _ _ (b .time), e, le-leb _ _ (b .count), l
 pub accepted-is-written-back-to-the-same-bytes : (l : List ℕ) (m : Touch) (t : List ℕ) → Bytes l → plainly l ≡ got m t → touchDraft (m .time) (framesBytes touchRecord (m .frames)) ≡ bytes l
 accepted-is-written-back-to-the-same-bytes l m t hl e =
     let law = strict-touch-law false in
-    let b = body-is m (message-sound (touch strict false) law event.touch l m t hl e) in
+    let b = body-is m (message-sound (touch taken false) law event.touch l m t hl e) in
     let x : l ≡ messageOf (m .time) (m .frames) = message-exact (touch strict false) law event.touch tt l m t hl e in
-    let k : length (messageOf (m .time) (m .frames)) ≤ mostBytes = rw x at (message-got (touch strict false) law event.touch l m t e .head .high) in
+    let k : length (messageOf (m .time) (m .frames)) ≤ mostBytes = rw x at (message-got (touch taken false) law event.touch l m t e .head .high) in
     draft-is m (framesBytes touchRecord (m .frames)) b (frames-back (m .frames) (b .frames)) k ∙ ap bytes (sym x)
 
 -- ---- a draft that is bytes passed every check
@@ -114,10 +115,10 @@ written-is-read-back-to-the-same-records-and-time time records s b h =
     let r = frames-read records (w .frames) (w .after) b (w .read) in
     let m : Touch = record { time = time; frames = w .frames } in
     let holds = body-holds m (record { time = w .early; count = w .few; frames = r .fit }) in
-    let k : headerBytes + length (touch strict false .write m) ≤ mostBytes = omega (arith, w .short, message-long time (w .frames)) in
+    let k : headerBytes + length (touch taken false .write m) ≤ mostBytes = omega (arith, w .short, message-long time (w .frames)) in
     record {
       message = m;
-      reads = ap plainly (w .same) ∙ message-back (touch strict false) (strict-touch-law false) event.touch m holds k (lit< tt);
+      reads = ap plainly (w .same) ∙ message-back (touch taken false) (touch-law taken taken-law false) event.touch m holds k (lit< tt);
       same-time = refl;
       same-records = sym (r .same);
     }

@@ -13,7 +13,7 @@ use lib.Seq.{drop-at}
 use Rattle.paper.specs.declared.Milliseconds.{Milliseconds}
 use Rattle.digits.specs.Digits.{Bytes}
 use Rattle.formats.specs.Format.{got, Each, writeSeries}
-use Rattle.fields.specs.Integers.{strict}
+use Rattle.fields.specs.Integers.{taken}
 use Rattle.house.specs.Layout.{recordOf, headBytes, contactBytes, touched}
 use Rattle.house.specs.declared.Contact.{Contact}
 use Rattle.house.specs.declared.Record.{Record}
@@ -76,7 +76,7 @@ one-more n b t s r long e h k =
     }
 
 contacts-more : (cs : List Contact) (m n : ℕ) (t s : List ℕ) → Each (λ b. contactRecord .Holds) false m cs → SpeltAs n t s
-    → SpeltAs (m + n) (contactsBytes touchRecord cs ++ t) (writeSeries (λ b. contact strict .write) false cs ++ s)
+    → SpeltAs (m + n) (contactsBytes touchRecord cs ++ t) (writeSeries (λ b. contact taken .write) false cs ++ s)
 unfolding contactsBytes writeSeries Each
 contacts-more [] zero n t s h k = rw zero-add k
 contacts-more [] (suc m) n t s h k = absurd h
@@ -84,27 +84,27 @@ contacts-more (c ∷ cs) zero n t s h k = absurd h
 contacts-more (c ∷ cs) (suc m) n t s h k =
     let r = record-of-contact touched c (contactsBytes touchRecord cs ++ t) (lit≤ tt) (lit< tt) (h .0 .0) in
     rw (suc-add, append-assoc, append-assoc)
-    (one-more (m + n) (contactBytes touched c) (contactsBytes touchRecord cs ++ t) (writeSeries (λ b. contact strict .write) false cs ++ s) (Record.Contact touched c) (length-contact touched c) r (contact-writes c (h .0)) (contacts-more cs m n t s (h .1) k))
+    (one-more (m + n) (contactBytes touched c) (contactsBytes touchRecord cs ++ t) (writeSeries (λ b. contact taken .write) false cs ++ s) (Record.Contact touched c) (length-contact touched c) r (contact-writes c (h .0)) (contacts-more cs m n t s (h .1) k))
 
-frame-more : (f : Frame Contact) (n : ℕ) (t s : List ℕ) → frameRecords .Holds f → SpeltAs n t s → SpeltAs (suc (length (f .contacts) + n)) (frameBytes touchRecord f ++ t) (frame strict false .write f ++ s)
+frame-more : (f : Frame Contact) (n : ℕ) (t s : List ℕ) → frameRecords .Holds f → SpeltAs n t s → SpeltAs (suc (length (f .contacts) + n)) (frameBytes touchRecord f ++ t) (frame taken false .write f ++ s)
 unfolding frameBytes frameFormat frameRecords
 frame-more f n t s h k =
     let c = contacts-more (f .contacts) (length (f .contacts)) n t s (h .1 .0) k in
     let r = record-of-head (headOf f) (contactsBytes touchRecord (f .contacts) ++ t) (h .0) in
     rw (append-nil, append-assoc, append-assoc)
-    (one-more (length (f .contacts) + n) (headBytes (headOf f)) (contactsBytes touchRecord (f .contacts) ++ t) (writeSeries (λ b. contact strict .write) false (f .contacts) ++ s) (Record.Head (headOf f)) (length-head (headOf f)) r (head-writes (headOf f) (h .0)) c)
+    (one-more (length (f .contacts) + n) (headBytes (headOf f)) (contactsBytes touchRecord (f .contacts) ++ t) (writeSeries (λ b. contact taken .write) false (f .contacts) ++ s) (Record.Head (headOf f)) (length-head (headOf f)) r (head-writes (headOf f) (h .0)) c)
 
 -- how many records
 count : List (Frame Contact) → ℕ
 count [] = 0
 count (f ∷ fs) = suc (length (f .contacts) + count fs)
 
-frames-spelt : (fs : List (Frame Contact)) (m : ℕ) → Each (λ b. frameRecords .Holds) false m fs → SpeltAs (count fs) (framesBytes touchRecord fs) (writeSeries (λ b. frame strict b .write) false fs)
+frames-spelt : (fs : List (Frame Contact)) (m : ℕ) → Each (λ b. frameRecords .Holds) false m fs → SpeltAs (count fs) (framesBytes touchRecord fs) (writeSeries (λ b. frame taken b .write) false fs)
 unfolding framesBytes writeSeries Each count
 frames-spelt [] zero h = nothing
 frames-spelt [] (suc m) h = absurd h
 frames-spelt (f ∷ fs) zero h = absurd h
-frames-spelt (f ∷ fs) (suc m) h = frame-more f (count fs) (framesBytes touchRecord fs) (writeSeries (λ b. frame strict b .write) false fs) (h .0) (frames-spelt fs m (h .1))
+frames-spelt (f ∷ fs) (suc m) h = frame-more f (count fs) (framesBytes touchRecord fs) (writeSeries (λ b. frame taken b .write) false fs) (h .0) (frames-spelt fs m (h .1))
 
 -- all the records of a slice that is read as frames, and the body that they make
 pub record Spelling (time : Milliseconds) (l : List ℕ) (fs : List (Frame Contact)) : Type 0 where
@@ -115,6 +115,6 @@ pub spelling-of : (time : Milliseconds) (l : List ℕ) (fs : List (Frame Contact
 unfolding writeMessage bodyFormat
 spelling-of time l fs t b e =
     let r = frames-read l fs t b e in
-    let k : SpeltAs (count fs) l (writeSeries (λ b. frame strict b .write) false fs) = rw (r .same) (frames-spelt fs (length fs) (r .fit)) in
+    let k : SpeltAs (count fs) l (writeSeries (λ b. frame taken b .write) false fs) = rw (r .same) (frames-spelt fs (length fs) (r .fit)) in
     let n : length l / 21 ≡ count fs = omega (arith, k .long) in
     record { each = rw n (k .each); same = rw (n, k .same, append-nil) }

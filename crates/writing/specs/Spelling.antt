@@ -4,7 +4,7 @@ use mathlib.Core.Bool.{false}
 use mathlib.Core.List.{List, [], _++_}
 use lib.ListN.{length, drop}
 use Rattle.formats.specs.Format.{Got, got, bad}
-use Rattle.fields.specs.Integers.{strict}
+use Rattle.fields.specs.Integers.{taken}
 use Rattle.house.specs.Fields.{recordBytes}
 use Rattle.house.specs.Layout.{recordOf}
 use Rattle.house.specs.declared.Record.{Record}
@@ -18,13 +18,13 @@ use Rattle.writing.specs.declared.Counted.the-variants as Counted
 
 -- a head is what stands before a frame's contacts
 abbrev pub spelling : Record → List ℕ
-spelling (Record.Head h) = frameHead strict false .write h
-spelling (Record.Contact kind c) = contact strict .write c
+spelling (Record.Head h) = frameHead taken false .write h
+spelling (Record.Contact kind c) = contact taken .write c
 spelling (Record.Refused e) = []
 
 abbrev pub Spells : Record → Type 0
-Spells (Record.Head h) = frameHead strict false .Holds h
-Spells (Record.Contact kind c) = contact strict .Holds c
+Spells (Record.Head h) = frameHead taken false .Holds h
+Spells (Record.Contact kind c) = contact taken .Holds c
 Spells (Record.Refused e) = ⊥
 
 -- n records
@@ -39,7 +39,7 @@ Spelt (suc n) l = Spells (recordOf l) × (recordBytes ≤ length l) × Spelt n (
 
 -- the body of a message of n records in so many frames
 abbrev pub bodyOf : Milliseconds → ℕ → ℕ → List ℕ → List ℕ
-bodyOf time frames n l = touchHead strict .write (record { time = time; frames = frames }) ++ spelt n l
+bodyOf time frames n l = touchHead taken .write (record { time = time; frames = frames }) ++ spelt n l
 
 -- ---- what the code judges
 

@@ -10,7 +10,7 @@ use Rattle.paper.specs.declared.Milliseconds.{Milliseconds}
 use Rattle.slices.specs.Writing.{Draft, bytes, refuse}
 use Rattle.formats.specs.Format.{Got, got, bad}
 use Rattle.integers.specs.Integer.{limit}
-use Rattle.fields.specs.Integers.{strict}
+use Rattle.fields.specs.Integers.{taken}
 use Rattle.messages.specs.Header.{writeMessage, mostBytes}
 use Rattle.messages.specs.Header as event
 use Rattle.touch.specs.Limits.{mostFrames}
@@ -21,7 +21,7 @@ use Rattle.writing.specs.Records.{framesIn}
 
 -- the message of a time and frames
 abbrev pub messageOf : Milliseconds → List (Frame Contact) → List ℕ
-messageOf time fs = writeMessage event.touch (touch strict false) (record { time = time; frames = fs })
+messageOf time fs = writeMessage event.touch (touch taken false) (record { time = time; frames = fs })
 
 -- 7, then 2
 unfoldable pub framesDraft : Milliseconds → List (Frame Contact) → Draft

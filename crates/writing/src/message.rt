@@ -4,7 +4,7 @@ ghost use mathlib.Core.List.{_++_};
 ghost use Prim.Native.Nat.{_+_, _<_};
 ghost use lib.ListN.{length};
 ghost use Rattle.integers.specs.Integer.{limit};
-ghost use Rattle.fields.specs.Integers.{strict};
+ghost use Rattle.fields.specs.Integers.{taken};
 ghost use Rattle.messages.specs.Header.{header, headerBytes, mostBytes};
 ghost use Rattle.touch.specs.Touch.{touchHead};
 ghost use Rattle.slices.specs.Writing.{Writes};
@@ -27,7 +27,7 @@ const FRAMES_MOST: usize = touch::FRAMES_MOST as usize;
 // What stands before a message's frames: encodeTime and their count.
 fn write_touch_head(out: &mut [u8], time: Milliseconds, frames: u8) -> Written
     requires { ⌜ time .0 < limit 2 0 ⌝ }
-    ensures { λ r. ⌜ Lays (touchHead strict .write (record { time = time; frames = frames })) r (now (out .entry)) (now (out .exit)) ⌝ }
+    ensures { λ r. ⌜ Lays (touchHead taken .write (record { time = time; frames = frames })) r (now (out .entry)) (now (out .exit)) ⌝ }
 {
     let first = integers::write_u4(out, time.0);
     let at_count = first.bytes;

@@ -6,7 +6,7 @@ ghost use Prim.Native.Nat.{_+_, _^_, _<_};
 ghost use Rattle.formats.specs.Format.{byte, HoldsWhen};
 ghost use Rattle.house.specs.Fits.{noSides};
 ghost use Rattle.integers.specs.Integer.{limit, writing};
-ghost use Rattle.fields.specs.Integers.{strict};
+ghost use Rattle.fields.specs.Integers.{taken};
 ghost use Rattle.touch.specs.Touch.{point, sides};
 ghost use Rattle.writing.specs.Filling.{Lays, both};
 use house::Point;
@@ -67,8 +67,8 @@ pub(crate) fn write_number(out: &mut [u8], there: bool, value: u32) -> Written
 
 // x and y.
 pub(crate) fn write_point(out: &mut [u8], place: Point) -> Written
-    requires { ⌜ point strict .Holds place ⌝ }
-    ensures { λ r. ⌜ Lays (point strict .write place) r (now (out .entry)) (now (out .exit)) ⌝ }
+    requires { ⌜ point taken .Holds place ⌝ }
+    ensures { λ r. ⌜ Lays (point taken .write place) r (now (out .entry)) (now (out .exit)) ⌝ }
 {
     let x = integers::write_s4(out, place.x);
     let at_y = x.bytes;
@@ -77,8 +77,8 @@ pub(crate) fn write_point(out: &mut [u8], place: Point) -> Written
 
 // Two sides, one behind the other.
 fn write_two(out: &mut [u8], first: i16, second: i16) -> Written
-    requires { ⌜ (strict .s2 .Holds first) × (strict .s2 .Holds second) ⌝ }
-    ensures { λ r. ⌜ Lays (strict .s2 .write first ++ strict .s2 .write second) r (now (out .entry)) (now (out .exit)) ⌝ }
+    requires { ⌜ (taken .s2 .Holds first) × (taken .s2 .Holds second) ⌝ }
+    ensures { λ r. ⌜ Lays (taken .s2 .write first ++ taken .s2 .write second) r (now (out .entry)) (now (out .exit)) ⌝ }
 {
     let start = integers::write_s2(out, first);
     let at = start.bytes;
@@ -87,8 +87,8 @@ fn write_two(out: &mut [u8], first: i16, second: i16) -> Written
 
 // left, top, right and bottom.
 fn write_four(out: &mut [u8], four: Sides) -> Written
-    requires { ⌜ sides strict .Holds four ⌝ }
-    ensures { λ r. ⌜ Lays (sides strict .write four) r (now (out .entry)) (now (out .exit)) ⌝ }
+    requires { ⌜ sides taken .Holds four ⌝ }
+    ensures { λ r. ⌜ Lays (sides taken .write four) r (now (out .entry)) (now (out .exit)) ⌝ }
 {
     let high = write_two(out, four.left, four.top);
     let at_right = high.bytes;
@@ -100,8 +100,8 @@ fn write_four(out: &mut [u8], four: Sides) -> Written
 
 // The sides, where they are there.
 pub(crate) fn write_sides(out: &mut [u8], there: bool, four: Sides) -> Written
-    requires { ⌜ HoldsWhen there (sides strict .Holds) noSides four ⌝ }
-    ensures { λ r. ⌜ Lays (cond there (sides strict .write four) []) r (now (out .entry)) (now (out .exit)) ⌝ }
+    requires { ⌜ HoldsWhen there (sides taken .Holds) noSides four ⌝ }
+    ensures { λ r. ⌜ Lays (cond there (sides taken .write four) []) r (now (out .entry)) (now (out .exit)) ⌝ }
 {
     if there {
         return write_four(out, four);

@@ -1,6 +1,6 @@
 // Records as the fields of a message, one record after the other.
 ghost use mathlib.Core.Bool.{false};
-ghost use Rattle.fields.specs.Integers.{strict};
+ghost use Rattle.fields.specs.Integers.{taken};
 ghost use Rattle.house.specs.Layout.{recordOf};
 ghost use Rattle.touch.specs.Touch.{frameHead};
 ghost use Rattle.writing.specs.Filling.{Lays};
@@ -14,8 +14,8 @@ use slices::Written;
 
 // What stands before a frame's contacts: their count and the frame's offset.
 fn write_frame_head(out: &mut [u8], head: Head) -> Written
-    requires { ⌜ frameHead strict false .Holds head ⌝ }
-    ensures { λ r. ⌜ Lays (frameHead strict false .write head) r (now (out .entry)) (now (out .exit)) ⌝ }
+    requires { ⌜ frameHead taken false .Holds head ⌝ }
+    ensures { λ r. ⌜ Lays (frameHead taken false .write head) r (now (out .entry)) (now (out .exit)) ⌝ }
 {
     let count = integers::write_u2(out, head.count);
     let at_offset = count.bytes;

@@ -8,7 +8,7 @@ use mathlib.Core.Bool.{false}
 use native.Mathlib.Omega.{arith}
 use lib.ListN.{length, drop}
 use Rattle.formats.proofs.Steps.{step, stop, Stepped}
-use Rattle.fields.specs.Integers.{strict}
+use Rattle.fields.specs.Integers.{taken}
 use Rattle.touch.specs.Touch.{contact}
 use Rattle.machine.specs.Conforms.{every}
 use Rattle.machine.specs.Machine.{isDown}
@@ -29,11 +29,11 @@ abbrev μ-loop : tie.MeasureT-loop
 -- the contact of this turn
 this : (c : tie.After-known-told Inv-loop μ-loop) →
     let p = c .before .before .before .before .before .before in
-    Stepped (contact strict) (p .before .before .args .rest .now) (p .loop .at) (c .before .got .given .0 .0) (p .loop .at + c .before .got .given .0 .1 .0)
+    Stepped (contact taken) (p .before .before .args .rest .now) (p .loop .at) (c .before .got .given .0 .0) (p .loop .at + c .before .got .given .0 .1 .0)
 this c =
     let r = c .before .before .before in
     let p = r .before .before .before in
-    step (contact strict) (p .before .before .args .rest .now) (p .loop .at) _ _ (p .loop .inv .0) (rw (c .before .got .given .1) at (r .read-contact .ensures))
+    step (contact taken) (p .before .before .args .rest .now) (p .loop .at) _ _ (p .loop .inv .0) (rw (c .before .got .given .1) at (r .read-contact .ensures))
 
 loop-holds : tie.Need-loop-holds Inv-loop μ-loop
 loop-holds c = (omega arith, refl)
@@ -61,7 +61,7 @@ returns c =
     let r = c .before .before in
     let p = r .before .before .before in
     let a = p .before .before .args in
-    let b = stop (contact strict) (a .rest .now) (p .loop .at) _ _ (rw (c .enum-told .given .1) at (r .read-contact .ensures)) in
+    let b = stop (contact taken) (a .rest .now) (p .loop .at) _ _ (rw (c .enum-told .given .1) at (r .read-contact .ensures)) in
     sym (read-bad false (every (isDown touchView)) (p .loop .left) _ _ (r .before .before .loop-test .taken) b) ∙ p .loop .inv .1
 
 add-at : tie.Need-add-at Inv-loop μ-loop

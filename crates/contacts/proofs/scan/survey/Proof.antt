@@ -8,7 +8,7 @@ use mathlib.Core.List.{List, _∷_}
 use native.Mathlib.Omega.{arith}
 use lib.ListN.{length, drop, length-set}
 use Rattle.formats.proofs.Steps.{step, stop, Stepped}
-use Rattle.fields.specs.Integers.{strict}
+use Rattle.fields.specs.Integers.{taken}
 use Rattle.house.specs.declared.Contact.{Contact}
 use Rattle.touch.specs.Touch.{contact}
 use Rattle.machine.specs.Table.{active, one}
@@ -36,11 +36,11 @@ left-of p =
 -- the contact of this turn
 this : (c : tie.After-known-told Inv-loop μ-loop) →
     let p = c .before .before .before .before .before .before in
-    Stepped (contact strict) (p .before .before .args .rest .now) (p .loop .at) (c .before .got .given .0 .0) (p .loop .at + c .before .got .given .0 .1 .0)
+    Stepped (contact taken) (p .before .before .args .rest .now) (p .loop .at) (c .before .got .given .0 .0) (p .loop .at + c .before .got .given .0 .1 .0)
 this c =
     let r = c .before .before .before in
     let p = r .before .before .before in
-    step (contact strict) (p .before .before .args .rest .now) (p .loop .at) _ _ (p .loop .inv .0) (rw (c .before .got .given .1) at (r .read-contact .ensures))
+    step (contact taken) (p .before .before .args .rest .now) (p .loop .at) _ _ (p .loop .inv .0) (rw (c .before .got .given .1) at (r .read-contact .ensures))
 
 -- an id is a byte
 id-in : (c : tie.After-struct-known Inv-loop μ-loop) → c .before .before .got .given .0 .0 .id < 256
@@ -87,7 +87,7 @@ returns c =
     let r = c .before .before .before in
     let p = r .before .before .before in
     let a = p .before .before .args in
-    let b = stop (contact strict) (a .rest .now) (p .loop .at) _ _ (rw (c .before .enum-told .given .1) at (r .read-contact .ensures)) in
+    let b = stop (contact taken) (a .rest .now) (p .loop .at) _ _ (rw (c .before .enum-told .given .1) at (r .read-contact .ensures)) in
     c .broken .ensures ∙ sym (read-bad unlawful (left-of p) (p .loop .left) _ _ (r .before .before .loop-test .taken) b) ∙ p .loop .inv .4
 
 cast-i : tie.Need-cast-i Inv-loop μ-loop

@@ -10,7 +10,7 @@ use denote.Ref.{now}
 use Rattle.formats.specs.Format.{Format, times}
 use Rattle.formats.specs.Answer.{skip}
 use Rattle.formats.proofs.Steps.{step, stop, Stepped}
-use Rattle.fields.specs.Integers.{strict}
+use Rattle.fields.specs.Integers.{taken}
 use Rattle.house.specs.declared.Head.{Head}
 use Rattle.touch.specs.Touch.{contact, frameHead}
 use Rattle.touch.proofs.Reading.{first}
@@ -30,13 +30,13 @@ at c = c .before .got-head .given .0 .1 .0
 
 -- as many contacts as the head says
 abbrev contacts : tie.After-known-told → Format (Unit {0})
-contacts c = skip (times (head c .count) (contact strict))
+contacts c = skip (times (head c .count) (contact taken))
 
 abbrev up : tie.After-known-told2 → tie.After-known-told
 up c = c .before .before .before .before .before .before
 
-head-read : (c : tie.After-known-told) → Stepped (frameHead strict false) (lent c) 0 (head c) (at c)
-head-read c = first (frameHead strict false) (lent c) _ _ (rw (c .before .got-head .given .1) at (c .before .before .before .read-frame-head .ensures))
+head-read : (c : tie.After-known-told) → Stepped (frameHead taken false) (lent c) 0 (head c) (at c)
+head-read c = first (frameHead taken false) (lent c) _ _ (rw (c .before .got-head .given .1) at (c .before .before .before .read-frame-head .ensures))
 
 contacts-read : (c : tie.After-known-told2) → Stepped (contacts (up c)) (lent (up c)) (at (up c)) tt (at (up c) + c .before .got-end .given .0 .0)
 contacts-read c =

@@ -5,7 +5,7 @@ use mathlib.Core.Path.{refl, sym, ap}
 use mathlib.Core.Bool.{false}
 use native.Mathlib.Omega.{arith}
 use denote.Ref.{now}
-use Rattle.fields.specs.Integers.{strict}
+use Rattle.fields.specs.Integers.{taken}
 use Rattle.touch.specs.Touch.{frameHead}
 use Rattle.touch.proofs.Reading.{first}
 use Rattle.frame_records.specs.declared.FoundFrame.{FoundFrame}
@@ -36,7 +36,7 @@ returns c =
 returns-2 : tie.Need-returns-2
 returns-2 c =
     let k = c .before .before .before in
-    let w = first (frameHead strict false) (now (k .before .before .args .rest)) _ _ (rw (c .before .got .given .1) at (k .read-frame-head .ensures)) in
+    let w = first (frameHead taken false) (now (k .before .before .args .rest)) _ _ (rw (c .before .got .given .1) at (k .read-frame-head .ensures)) in
     record { found = rw (w .reads) (refl, refl); begins = w .ends }
 
 pub find-head-spec : {M : Type 1} → statement M

@@ -8,7 +8,7 @@ use native.Mathlib.Omega.{arith}
 use lib.ListN.{length, drop}
 use Rattle.formats.specs.Answer.{skipped}
 use Rattle.formats.proofs.Steps.{step, stop, Stepped, series-end, series-got, series-bad}
-use Rattle.fields.specs.Integers.{strict}
+use Rattle.fields.specs.Integers.{taken}
 use Rattle.touch.specs.Touch.{contact}
 use Rattle.contacts.specs.Ruling.{contactsOf, tableFrom}
 use Rattle.moves.specs.Moves.{afterRead}
@@ -28,11 +28,11 @@ abbrev μ-loop : tie.MeasureT-loop
 -- the contact of this turn
 this : (c : tie.After-known-told Inv-loop μ-loop) →
     let p = c .before .before .before .before .before .before in
-    Stepped (contact strict) (p .before .before .args .rest .now) (p .loop .at) (c .before .got .given .0 .0) (p .loop .at + c .before .got .given .0 .1 .0)
+    Stepped (contact taken) (p .before .before .args .rest .now) (p .loop .at) (c .before .got .given .0 .0) (p .loop .at + c .before .got .given .0 .1 .0)
 this c =
     let r = c .before .before .before in
     let p = r .before .before .before in
-    step (contact strict) (p .before .before .args .rest .now) (p .loop .at) _ _ (p .loop .inv .0) (rw (c .before .got .given .1) at (r .read-contact .ensures))
+    step (contact taken) (p .before .before .args .rest .now) (p .loop .at) _ _ (p .loop .inv .0) (rw (c .before .got .given .1) at (r .read-contact .ensures))
 
 loop-holds : tie.Need-loop-holds Inv-loop μ-loop
 loop-holds c = (omega arith, refl, refl)
@@ -59,12 +59,12 @@ returns : tie.Need-returns Inv-loop μ-loop
 returns c =
     let r = c .before .before in
     let p = r .before .before .before in
-    let b = stop (contact strict) (p .before .before .args .rest .now) (p .loop .at) _ _ (rw (c .enum-told .given .1) at (r .read-contact .ensures)) in
+    let b = stop (contact taken) (p .before .before .args .rest .now) (p .loop .at) _ _ (rw (c .enum-told .given .1) at (r .read-contact .ensures)) in
     let h = r .before .before .loop-test .taken in
     let a = p .before .before .args in
     record {
       table = sym (read-bad _ (p .loop .left) _ _ h b) ∙ p .loop .inv .2;
-      passed = ends-bad (a .n) (a .rest .now) _ (sym (ap skipped (series-bad (λ b. contact strict .read) false (p .loop .left) _ _ h b)) ∙ p .loop .inv .1);
+      passed = ends-bad (a .n) (a .rest .now) _ (sym (ap skipped (series-bad (λ b. contact taken .read) false (p .loop .left) _ _ h b)) ∙ p .loop .inv .1);
     }
 
 move-contact-requires : tie.Need-move-contact-requires Inv-loop μ-loop
@@ -85,7 +85,7 @@ loop-again c =
     let r = k .before .before .before in
     let p = r .before .before .before in (
       this k .ends,
-      sym (series-got (λ b. contact strict .read) false (p .loop .left) _ _ _ (r .before .before .loop-test .taken) (this k .reads)) ∙ p .loop .inv .1,
+      sym (series-got (λ b. contact taken .read) false (p .loop .left) _ _ _ (r .before .before .loop-test .taken) (this k .reads)) ∙ p .loop .inv .1,
       read-on _ _ (p .loop .left) (p .loop .at) _ (p .before .before .args .rest .now) _ (r .before .before .loop-test .taken) (this k) (c .move-contact .ensures)
           ∙ p .loop .inv .2,
     )
@@ -96,7 +96,7 @@ returns-2 c =
     let a = p .before .before .args in
     record {
       table = sym (read-end _ (p .loop .left) _ (c .loop-test .left)) ∙ p .loop .inv .2;
-      passed = ends-got (a .n) (a .rest .now) (p .loop .at) (sym (ap skipped (series-end (λ b. contact strict .read) false (p .loop .left) _ (c .loop-test .left))) ∙ p .loop .inv .1) (p .loop .inv .0);
+      passed = ends-got (a .n) (a .rest .now) (p .loop .at) (sym (ap skipped (series-end (λ b. contact taken .read) false (p .loop .left) _ (c .loop-test .left))) ∙ p .loop .inv .1) (p .loop .inv .0);
     }
 
 pub apply-spec : {M : Type 1} → statement M

@@ -8,7 +8,7 @@ use mathlib.Core.List.{List}
 use native.Mathlib.Omega.{arith}
 use denote.Ref.{now}
 use lib.ListN.{length, take, drop}
-use Rattle.fields.specs.Integers.{strict}
+use Rattle.fields.specs.Integers.{taken}
 use Rattle.messages.specs.Header.{headerBytes}
 use Rattle.messages.specs.Header as event
 use Rattle.messages.proofs.Laws.{message-refused, message-low, message-body}
@@ -24,8 +24,8 @@ lent c = now (c .before .before .before .before .args .message)
 low : (c : tie.After-enum-told) → headerBytes ≤ length (lent c)
 low c = message-low event.touch _ _ (c .before .before .read-header .ensures) _ (c .enum-told .given .1)
 
-behind : (c : tie.After-enum-told) → plainly (lent c) ≡ body strict false (take (length (lent c) - headerBytes) (drop headerBytes (lent c)))
-behind c = message-body event.touch _ _ (c .before .before .read-header .ensures) _ (c .enum-told .given .1) (touch strict false)
+behind : (c : tie.After-enum-told) → plainly (lent c) ≡ body taken false (take (length (lent c) - headerBytes) (drop headerBytes (lent c)))
+behind c = message-body event.touch _ _ (c .before .before .read-header .ensures) _ (c .enum-told .given .1) (touch taken false)
 
 read-header-requires : tie.Need-read-header-requires
 read-header-requires c κs = search needs
@@ -67,7 +67,7 @@ add-t9 c =
     omega (arith, body-inside (lent k) (behind k) _ _ (low k) (rw (c .before .checked .given .1) at (r .check-body .ensures)))
 
 returns-2 : tie.Need-returns-2
-returns-2 c = message-refused event.touch _ _ (c .before .before .before .read-header .ensures) (touch strict false) _ (c .before .e .given .1)
+returns-2 c = message-refused event.touch _ _ (c .before .before .before .read-header .ensures) (touch taken false) _ (c .before .e .given .1)
 
 returns-3 : tie.Need-returns-3
 returns-3 c =

@@ -9,7 +9,7 @@ use native.Mathlib.Omega.{arith}
 use lib.ListN.{length, drop}
 use Rattle.formats.specs.Answer.{skipped}
 use Rattle.formats.proofs.Steps.{series-end, series-got, series-bad}
-use Rattle.fields.specs.Integers.{strict}
+use Rattle.fields.specs.Integers.{taken}
 use Rattle.touch.specs.Touch.{contact}
 use Rattle.frame_records.proofs.Contacts.{Laying, laying-first, laying-one, laying-none, laying-next, laying-bad, laying-done}
 use Rattle.contacts.specs.Ruling.{contactsOf, tableFrom}
@@ -68,7 +68,7 @@ returns c =
     record {
       table = record {
         table = sym (read-bad _ (p .loop .left) _ _ h b) ∙ p .loop .inv .2;
-        passed = ends-bad (a .n) (a .rest .now) _ (sym (ap skipped (series-bad (λ b. contact strict .read) false (p .loop .left) _ _ h b)) ∙ p .loop .inv .1);
+        passed = ends-bad (a .n) (a .rest .now) _ (sym (ap skipped (series-bad (λ b. contact taken .read) false (p .loop .left) _ _ h b)) ∙ p .loop .inv .1);
       };
       output = laying-bad _ _ _ _ _ _ _ (p .loop .inv .0) _ h b;
     }
@@ -112,7 +112,7 @@ loop-again c =
     let h = r .before .before .loop-test .taken in
     let one = laying-one _ _ _ _ _ _ _ (p .loop .inv .0) _ (r .read-contact .ensures) _ _ (g .before .got .given .1) in (
       laying-next _ _ _ _ _ _ _ (p .loop .inv .0) _ _ _ _ h one (w .write-contact .ensures),
-      sym (series-got (λ b. contact strict .read) false (p .loop .left) _ _ _ h (one .reads)) ∙ p .loop .inv .1,
+      sym (series-got (λ b. contact taken .read) false (p .loop .left) _ _ _ h (one .reads)) ∙ p .loop .inv .1,
       read-on _ _ (p .loop .left) (p .loop .at) _ (p .before .before .before .args .rest .now) _ h one (c .move-contact .ensures) ∙ p .loop .inv .2,
     )
 
@@ -127,7 +127,7 @@ returns-2 c =
     record {
       table = record {
         table = sym (read-end _ (p .loop .left) _ h) ∙ p .loop .inv .2;
-        passed = ends-got (a .n) (a .rest .now) (p .loop .at) (sym (ap skipped (series-end (λ b. contact strict .read) false (p .loop .left) _ h)) ∙ p .loop .inv .1) (p .loop .inv .0 .inside);
+        passed = ends-got (a .n) (a .rest .now) (p .loop .at) (sym (ap skipped (series-end (λ b. contact taken .read) false (p .loop .left) _ h)) ∙ p .loop .inv .1) (p .loop .inv .0 .inside);
       };
       output = laying-done _ _ _ _ _ _ _ (p .loop .inv .0) h;
     }

@@ -14,7 +14,7 @@ use Rattle.states.specs.Table.{listed}
 use Rattle.states.proofs.Rule.{listed-small}
 use Rattle.formats.specs.Format.{got, readByte}
 use Rattle.formats.proofs.Steps.{step, stop, Stepped, byte-step, byte-stop}
-use Rattle.fields.specs.Integers.{strict}
+use Rattle.fields.specs.Integers.{taken}
 use Rattle.touch.specs.Touch.{present, point, flags, optional, contact}
 use Rattle.touch.proofs.Reading.{passed}
 use Rattle.touch.proofs.contact.read_contact.Statement.{statement}
@@ -54,21 +54,21 @@ short c = omega arith
 id-read : (c : tie.After-known-told) → readByte (lent c) ≡ got (getD (lent c) 0 0) (drop 1 (lent c))
 id-read c = byte-step (lent c) (omega (arith, c .before .before .before .before .before .if1 .left))
 
-present-read : (c : tie.After-known-told) → Stepped (present strict) (lent c) 1 (there c) (at-place c)
+present-read : (c : tie.After-known-told) → Stepped (present taken) (lent c) 1 (there c) (at-place c)
 present-read c =
-    step (present strict) (lent c) 1 _ _ (omega (arith, c .before .before .before .before .before .if1 .left)) (rw (c .before .got-present .given .1) at (c .before .before .before .read-present .ensures))
+    step (present taken) (lent c) 1 _ _ (omega (arith, c .before .before .before .before .before .if1 .left)) (rw (c .before .got-present .given .1) at (c .before .before .before .read-present .ensures))
 
-place-read : (c : tie.After-known-told2) → Stepped (point strict) (lent (up2 c)) (at-place (up2 c)) (c .before .got-place .given .0 .0) (at-flags c)
+place-read : (c : tie.After-known-told2) → Stepped (point taken) (lent (up2 c)) (at-place (up2 c)) (c .before .got-place .given .0 .0) (at-flags c)
 place-read c =
-    step (point strict) (lent (up2 c)) (at-place (up2 c)) _ _ (present-read (up2 c) .ends) (rw (c .before .got-place .given .1) at (c .before .before .before .read-point .ensures))
+    step (point taken) (lent (up2 c)) (at-place (up2 c)) _ _ (present-read (up2 c) .ends) (rw (c .before .got-place .given .1) at (c .before .before .before .read-point .ensures))
 
-flags-read : (c : tie.After-known-told3) → Stepped (flags strict) (lent (up2 (up3 c))) (at-flags (up3 c)) (c .before .got-flags .given .0 .0) (at-more c)
+flags-read : (c : tie.After-known-told3) → Stepped (flags taken) (lent (up2 (up3 c))) (at-flags (up3 c)) (c .before .got-flags .given .0 .0) (at-more c)
 flags-read c =
-    step (flags strict) (lent (up2 (up3 c))) (at-flags (up3 c)) _ _ (place-read (up3 c) .ends) (rw (c .before .got-flags .given .1) at (c .before .before .before .read-flags .ensures))
+    step (flags taken) (lent (up2 (up3 c))) (at-flags (up3 c)) _ _ (place-read (up3 c) .ends) (rw (c .before .got-flags .given .1) at (c .before .before .before .read-flags .ensures))
 
-more-read : (c : tie.After-known-told4) → Stepped (optional strict (there (up2 (up3 (up4 c))))) (lent (up2 (up3 (up4 c)))) (at-more (up4 c)) (c .before .got-more .given .0 .0) (at-end c)
+more-read : (c : tie.After-known-told4) → Stepped (optional taken (there (up2 (up3 (up4 c))))) (lent (up2 (up3 (up4 c)))) (at-more (up4 c)) (c .before .got-more .given .0 .0) (at-end c)
 more-read c =
-    step (optional strict (there (up2 (up3 (up4 c))))) (lent (up2 (up3 (up4 c)))) (at-more (up4 c)) _ _ (flags-read (up4 c) .ends) (rw (c .before .got-more .given .1) at (c .before .before .before .read-optional .ensures))
+    step (optional taken (there (up2 (up3 (up4 c))))) (lent (up2 (up3 (up4 c)))) (at-more (up4 c)) _ _ (flags-read (up4 c) .ends) (rw (c .before .got-more .given .1) at (c .before .before .before .read-optional .ensures))
 
 returns : tie.Need-returns
 unfolding contact
@@ -103,7 +103,7 @@ returns-2 c =
     let s = r .before .before in
     let l = now (s .before .before .args .rest) in
     let i = byte-step l (omega (arith, s .if1 .left)) in
-    let b = stop (present strict) l 1 _ _ (rw t at (r .read-present .ensures)) in
+    let b = stop (present taken) l 1 _ _ (rw t at (r .read-present .ensures)) in
     record { same = rw (c .refusal .ensures, t, i, b); inside = omega arith }
 
 add-at-place : tie.Need-add-at-place
@@ -136,7 +136,7 @@ returns-3 c =
     let t = c .before .enum-told2 .given .1 in
     let r = c .before .before .before in
     let k = r .before .before in
-    let b = stop (point strict) (lent k) (at-place k) _ _ (rw t at (r .read-point .ensures)) in
+    let b = stop (point taken) (lent k) (at-place k) _ _ (rw t at (r .read-point .ensures)) in
     record { same = rw (c .refusal2 .ensures, t, id-read k, present-read k .reads, b); inside = omega arith }
 
 add-at-flags : tie.Need-add-at-flags
@@ -169,7 +169,7 @@ returns-4 c =
     let t = c .before .enum-told3 .given .1 in
     let r = c .before .before .before in
     let k = r .before .before in
-    let b = stop (flags strict) (lent (up2 k)) (at-flags k) _ _ (rw t at (r .read-flags .ensures)) in
+    let b = stop (flags taken) (lent (up2 k)) (at-flags k) _ _ (rw t at (r .read-flags .ensures)) in
     record { same = rw (c .refusal3 .ensures, t, id-read (up2 k), present-read (up2 k) .reads, place-read k .reads, b); inside = omega arith }
 
 add-at-more : tie.Need-add-at-more
@@ -203,19 +203,19 @@ returns-5 c =
     let r = c .before .before .before in
     let k = r .before .before in
     let j = up2 (up3 k) in
-    let b = stop (optional strict (there j)) (lent j) (at-more k) _ _ (rw t at (r .read-optional .ensures)) in
+    let b = stop (optional taken (there j)) (lent j) (at-more k) _ _ (rw t at (r .read-optional .ensures)) in
     record { same = rw (c .refusal4 .ensures, t, id-read j, present-read j .reads, place-read (up3 k) .reads, flags-read k .reads, b); inside = omega arith }
 
 cast-t37 : tie.Need-cast-t37
 cast-t37 c =
     let k = up4 (c .before) in
     let j = up2 (up3 k) in
-    omega (arith, listed-small _ (passed (strict .u4) listed badFlags (lent j) (at-flags (up3 k)) _ _ (flags-read k)))
+    omega (arith, listed-small _ (passed (taken .u4) listed badFlags (lent j) (at-flags (up3 k)) _ _ (flags-read k)))
 
 cast-t38 : tie.Need-cast-t38
 cast-t38 c =
     let j = up2 (up3 (up4 (c .before))) in
-    let p = passed (strict .u2) (λ p. ltb p 8) badField (lent j) 1 _ _ (present-read j) in
+    let p = passed (taken .u2) (λ p. ltb p 8) badField (lent j) 1 _ _ (present-read j) in
     omega (arith, ltb-true)
 
 shared-slice-read-t40 : tie.Need-shared-slice-read-t40

@@ -11,9 +11,8 @@ use lib.Dec.{eqb}
 use Rattle.paper.specs.Refusals.{badOffset}
 use Rattle.formats.specs.Format.{Got}
 use Rattle.formats.specs.Answer.{Answers}
-use Rattle.fields.specs.Integers.{strict}
+use Rattle.fields.specs.Integers.{takenReading, taken}
 use Rattle.fields.specs.Answer.{lengthOf, u8Got}
-use Rattle.integers.specs.Integer.{reading}
 use Rattle.integers.specs.Answer.{u8Of}
 use Rattle.integers.specs.declared.ReadU8.{ReadU8}
 use Rattle.integers.specs.declared.ReadU8.the-variants as U8
@@ -24,11 +23,11 @@ use Rattle.touch.proofs.frames.read_offset.Statement.{statement}
 use Rattle.touch.proofs.frames.read_offset.Tie as tie
 
 -- the answer, judged or not
-told : (b d : Bool) (l : List ℕ) (x : Got ℕ) (n : ℕ) → b ≡ d → Answers (offset strict d) l x n → Answers (offset strict b) l x n
+told : (b d : Bool) (l : List ℕ) (x : Got ℕ) (n : ℕ) → b ≡ d → Answers (offset taken d) l x n → Answers (offset taken b) l x n
 told b d l x n e w = rw e w
 
 -- refused before the test
-judged-or-not : (b : Bool) (l : List ℕ) (r : ReadU8) → u8Of r ≡ reading 3 0 l → (y : ℕ) → r ≡ U8.Refused y → Answers (offset strict b) l (u8Got r l) (lengthOf (u8Of r))
+judged-or-not : (b : Bool) (l : List ℕ) (r : ReadU8) → u8Of r ≡ takenReading 3 0 l → (y : ℕ) → r ≡ U8.Refused y → Answers (offset taken b) l (u8Got r l) (lengthOf (u8Of r))
 judged-or-not true l r e y w = test-before 3 (λ o. eqb o 0) badOffset l (u8Of r) e y (ap u8Of w)
 judged-or-not false l r e y w = u8-answers l r e
 

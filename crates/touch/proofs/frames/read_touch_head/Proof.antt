@@ -10,7 +10,7 @@ use borrow.Author.Tests.{leb-true}
 use lib.Dec.{leb}
 use Rattle.paper.specs.Refusals.{badCount}
 use Rattle.formats.proofs.Steps.{step, stop, Stepped}
-use Rattle.fields.specs.Integers.{strict}
+use Rattle.fields.specs.Integers.{taken}
 use Rattle.fields.proofs.Answers.{u4-answers}
 use Rattle.framing.specs.Format.{bodyHeadFormat, countTo}
 use Rattle.touch.specs.Limits.{mostFrames}
@@ -31,14 +31,14 @@ up c = c .before .before .before .before .before
 abbrev at-end : tie.After-known-told2 → ℕ
 at-end c = at-count (up c) + c .before .got-count .given .0 .1 .0
 
-time-read : (c : tie.After-known-told) → Stepped (strict .u4) (lent c) 0 (c .before .got-time .given .0 .0) (at-count c)
+time-read : (c : tie.After-known-told) → Stepped (taken .u4) (lent c) 0 (c .before .got-time .given .0 .0) (at-count c)
 time-read c =
     let r = c .before .before .before in
-    first (strict .u4) (lent c) _ _ (rw (c .before .got-time .given .1) at (u4-answers (lent c) (r .read-u4 .result) (r .read-u4 .ensures)))
+    first (taken .u4) (lent c) _ _ (rw (c .before .got-time .given .1) at (u4-answers (lent c) (r .read-u4 .result) (r .read-u4 .ensures)))
 
-count-read : (c : tie.After-known-told2) → Stepped (countTo strict mostFrames) (lent (up c)) (at-count (up c)) (c .before .got-count .given .0 .0) (at-end c)
+count-read : (c : tie.After-known-told2) → Stepped (countTo taken mostFrames) (lent (up c)) (at-count (up c)) (c .before .got-count .given .0 .0) (at-end c)
 count-read c =
-    step (countTo strict mostFrames) (lent (up c)) (at-count (up c)) _ _ (time-read (up c) .ends) (rw (c .before .got-count .given .1) at (c .before .before .before .read-count .ensures))
+    step (countTo taken mostFrames) (lent (up c)) (at-count (up c)) _ _ (time-read (up c) .ends) (rw (c .before .got-count .given .1) at (c .before .before .before .read-count .ensures))
 
 read-u4-requires : tie.Need-read-u4-requires
 read-u4-requires c κs = search needs
@@ -87,12 +87,12 @@ returns-2 c =
     let t = c .before .enum-told2 .given .1 in
     let r = c .before .before .before in
     let k = r .before .before in
-    let b = stop (countTo strict mostFrames) (lent k) (at-count k) _ _ (rw t at (r .read-count .ensures)) in
+    let b = stop (countTo taken mostFrames) (lent k) (at-count k) _ _ (rw t at (r .read-count .ensures)) in
     record { same = rw (c .refusal2 .ensures, t, time-read k .reads, b); inside = omega arith }
 
 cast-frames : tie.Need-cast-frames
 cast-frames c =
-    let n = passed (strict .u2) (λ n. leb n mostFrames) badCount (lent (up c)) (at-count (up c)) _ _ (count-read c) in
+    let n = passed (taken .u2) (λ n. leb n mostFrames) badCount (lent (up c)) (at-count (up c)) _ _ (count-read c) in
     omega (arith, leb-true)
 
 add-end : tie.Need-add-end

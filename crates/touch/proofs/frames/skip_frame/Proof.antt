@@ -10,7 +10,7 @@ use mathlib.Core.Bool.{Bool}
 use Rattle.formats.specs.Format.{times}
 use Rattle.formats.specs.Answer.{skip}
 use Rattle.formats.proofs.Steps.{step, stop, Stepped}
-use Rattle.fields.specs.Integers.{strict}
+use Rattle.fields.specs.Integers.{taken}
 use Rattle.framing.specs.Format.{frameFormat}
 use Rattle.house.specs.declared.Head.{Head}
 use Rattle.touch.specs.Touch.{contact, frameHead}
@@ -39,12 +39,12 @@ up c = c .before .before .before .before .before .before
 abbrev at-end : tie.After-known-told2 → ℕ
 at-end c = at (up c) + c .before .got-end .given .0 .0
 
-head-read : (c : tie.After-known-told) → Stepped (frameHead strict (judged c)) (lent c) 0 (head c) (at c)
-head-read c = first (frameHead strict (judged c)) (lent c) _ _ (rw (c .before .got-head .given .1) at (c .before .before .before .read-frame-head .ensures))
+head-read : (c : tie.After-known-told) → Stepped (frameHead taken (judged c)) (lent c) 0 (head c) (at c)
+head-read c = first (frameHead taken (judged c)) (lent c) _ _ (rw (c .before .got-head .given .1) at (c .before .before .before .read-frame-head .ensures))
 
-contacts-read : (c : tie.After-known-told2) → Stepped (skip (times (head (up c) .count) (contact strict))) (lent (up c)) (at (up c)) tt (at-end c)
+contacts-read : (c : tie.After-known-told2) → Stepped (skip (times (head (up c) .count) (contact taken))) (lent (up c)) (at (up c)) tt (at-end c)
 contacts-read c =
-    step (skip (times (head (up c) .count) (contact strict))) (lent (up c)) (at (up c)) _ _ (head-read (up c) .ends) (rw (c .before .got-end .given .1) at (c .before .before .before .skip-contacts .ensures))
+    step (skip (times (head (up c) .count) (contact taken))) (lent (up c)) (at (up c)) _ _ (head-read (up c) .ends) (rw (c .before .got-end .given .1) at (c .before .before .before .skip-contacts .ensures))
 
 read-frame-head-requires : tie.Need-read-frame-head-requires
 read-frame-head-requires c κs = search needs
@@ -91,8 +91,8 @@ returns-2 c =
     let t = c .enum-told2 .given .1 in
     let r = c .before .before in
     let k = r .before .before .before in
-    let b = stop (skip (times (head k .count) (contact strict))) (lent k) (at k) _ _ (rw t at (r .skip-contacts .ensures)) in
-    record { same = rw t (sym (frame-end strict touchLimits (contact strict) (judged k) (lent k) (head k) _ (head-read k .reads) ∙ b)); inside = rw t (omega arith) }
+    let b = stop (skip (times (head k .count) (contact taken))) (lent k) (at k) _ _ (rw t at (r .skip-contacts .ensures)) in
+    record { same = rw t (sym (frame-end taken touchLimits (contact taken) (judged k) (lent k) (head k) _ (head-read k .reads) ∙ b)); inside = rw t (omega arith) }
 
 add-t10 : tie.Need-add-t10
 add-t10 c = omega (arith, contacts-read c .ends)
@@ -100,7 +100,7 @@ add-t10 c = omega (arith, contacts-read c .ends)
 returns-3 : tie.Need-returns-3
 returns-3 c =
     let k = up c in
-    record { same = sym (frame-end strict touchLimits (contact strict) (judged k) (lent k) (head k) _ (head-read k .reads) ∙ contacts-read c .reads); inside = contacts-read c .ends }
+    record { same = sym (frame-end taken touchLimits (contact taken) (judged k) (lent k) (head k) _ (head-read k .reads) ∙ contacts-read c .reads); inside = contacts-read c .ends }
 
 pub skip-frame-spec : {M : Type 1} → statement M
 skip-frame-spec =

@@ -12,7 +12,7 @@ use mir.Facts.{toZ-ofZ}
 use lib.ListN.{drop}
 use Rattle.formats.specs.Format.{got}
 use Rattle.formats.proofs.Steps.{step, stop, Stepped}
-use Rattle.fields.specs.Integers.{strict}
+use Rattle.fields.specs.Integers.{taken}
 use Rattle.fields.proofs.Answers.{s2-answers}
 use Rattle.touch.specs.Touch.{sides}
 use Rattle.touch.proofs.Reading.{first}
@@ -44,25 +44,25 @@ up4 c = c .before .before .before .before .before
 abbrev at-end : tie.After-known-told4 → ℕ
 at-end c = at-bottom (up4 c) + c .before .got-bottom .given .0 .1 .0
 
-left-read : (c : tie.After-known-told) → Stepped (strict .s2) (lent c) 0 (c .before .got-left .given .0 .0) (at-top c)
+left-read : (c : tie.After-known-told) → Stepped (taken .s2) (lent c) 0 (c .before .got-left .given .0 .0) (at-top c)
 left-read c =
     let r = c .before .before .before in
-    first (strict .s2) (lent c) _ _ (rw (c .before .got-left .given .1) at (s2-answers (lent c) (r .read-s2 .result) (r .read-s2 .ensures)))
+    first (taken .s2) (lent c) _ _ (rw (c .before .got-left .given .1) at (s2-answers (lent c) (r .read-s2 .result) (r .read-s2 .ensures)))
 
-top-read : (c : tie.After-known-told2) → Stepped (strict .s2) (lent (up2 c)) (at-top (up2 c)) (c .before .got-top .given .0 .0) (at-right c)
+top-read : (c : tie.After-known-told2) → Stepped (taken .s2) (lent (up2 c)) (at-top (up2 c)) (c .before .got-top .given .0 .0) (at-right c)
 top-read c =
     let r = c .before .before .before in
-    step (strict .s2) (lent (up2 c)) (at-top (up2 c)) _ _ (left-read (up2 c) .ends) (rw (c .before .got-top .given .1) at (s2-answers _ (r .read-s22 .result) (r .read-s22 .ensures)))
+    step (taken .s2) (lent (up2 c)) (at-top (up2 c)) _ _ (left-read (up2 c) .ends) (rw (c .before .got-top .given .1) at (s2-answers _ (r .read-s22 .result) (r .read-s22 .ensures)))
 
-right-read : (c : tie.After-known-told3) → Stepped (strict .s2) (lent (up2 (up3 c))) (at-right (up3 c)) (c .before .got-right .given .0 .0) (at-bottom c)
+right-read : (c : tie.After-known-told3) → Stepped (taken .s2) (lent (up2 (up3 c))) (at-right (up3 c)) (c .before .got-right .given .0 .0) (at-bottom c)
 right-read c =
     let r = c .before .before .before in
-    step (strict .s2) (lent (up2 (up3 c))) (at-right (up3 c)) _ _ (top-read (up3 c) .ends) (rw (c .before .got-right .given .1) at (s2-answers _ (r .read-s23 .result) (r .read-s23 .ensures)))
+    step (taken .s2) (lent (up2 (up3 c))) (at-right (up3 c)) _ _ (top-read (up3 c) .ends) (rw (c .before .got-right .given .1) at (s2-answers _ (r .read-s23 .result) (r .read-s23 .ensures)))
 
-bottom-read : (c : tie.After-known-told4) → Stepped (strict .s2) (lent (up2 (up3 (up4 c)))) (at-bottom (up4 c)) (c .before .got-bottom .given .0 .0) (at-end c)
+bottom-read : (c : tie.After-known-told4) → Stepped (taken .s2) (lent (up2 (up3 (up4 c)))) (at-bottom (up4 c)) (c .before .got-bottom .given .0 .0) (at-end c)
 bottom-read c =
     let r = c .before .before .before in
-    step (strict .s2) (lent (up2 (up3 (up4 c)))) (at-bottom (up4 c)) _ _ (right-read (up4 c) .ends) (rw (c .before .got-bottom .given .1) at (s2-answers _ (r .read-s24 .result) (r .read-s24 .ensures)))
+    step (taken .s2) (lent (up2 (up3 (up4 c)))) (at-bottom (up4 c)) _ _ (right-read (up4 c) .ends) (rw (c .before .got-bottom .given .1) at (s2-answers _ (r .read-s24 .result) (r .read-s24 .ensures)))
 
 left-fits : (c : tie.After-known-told) → SFits w16 (c .before .got-left .given .0 .0)
 left-fits c = search needs
@@ -123,7 +123,7 @@ returns-2 c =
     let t = c .before .enum-told2 .given .1 in
     let r = c .before .before .before in
     let k = r .before .before in
-    let b = stop (strict .s2) (lent k) (at-top k) _ _ (rw t at (s2-answers _ (r .read-s22 .result) (r .read-s22 .ensures))) in
+    let b = stop (taken .s2) (lent k) (at-top k) _ _ (rw t at (s2-answers _ (r .read-s22 .result) (r .read-s22 .ensures))) in
     record { same = rw (c .refusal2 .ensures, t, left-read k .reads, b); inside = omega arith }
 
 add-at-right : tie.Need-add-at-right
@@ -156,7 +156,7 @@ returns-3 c =
     let t = c .before .enum-told3 .given .1 in
     let r = c .before .before .before in
     let k = r .before .before in
-    let b = stop (strict .s2) (lent (up2 k)) (at-right k) _ _ (rw t at (s2-answers _ (r .read-s23 .result) (r .read-s23 .ensures))) in
+    let b = stop (taken .s2) (lent (up2 k)) (at-right k) _ _ (rw t at (s2-answers _ (r .read-s23 .result) (r .read-s23 .ensures))) in
     record { same = rw (c .refusal3 .ensures, t, left-read (up2 k) .reads, top-read k .reads, b); inside = omega arith }
 
 add-at-bottom : tie.Need-add-at-bottom
@@ -189,7 +189,7 @@ returns-4 c =
     let t = c .before .enum-told4 .given .1 in
     let r = c .before .before .before in
     let k = r .before .before in
-    let b = stop (strict .s2) (lent (up2 (up3 k))) (at-bottom k) _ _ (rw t at (s2-answers _ (r .read-s24 .result) (r .read-s24 .ensures))) in
+    let b = stop (taken .s2) (lent (up2 (up3 k))) (at-bottom k) _ _ (rw t at (s2-answers _ (r .read-s24 .result) (r .read-s24 .ensures))) in
     record { same = rw (c .refusal4 .ensures, t, left-read (up2 (up3 k)) .reads, top-read (up3 k) .reads, right-read k .reads, b); inside = omega arith }
 
 add-t19 : tie.Need-add-t19

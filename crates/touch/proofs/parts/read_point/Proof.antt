@@ -12,7 +12,7 @@ use mir.Facts.{toZ-ofZ}
 use lib.ListN.{drop}
 use Rattle.formats.specs.Format.{got}
 use Rattle.formats.proofs.Steps.{step, stop, Stepped}
-use Rattle.fields.specs.Integers.{strict}
+use Rattle.fields.specs.Integers.{taken}
 use Rattle.fields.proofs.Answers.{s4-answers}
 use Rattle.touch.specs.Touch.{point}
 use Rattle.touch.proofs.Reading.{first}
@@ -32,15 +32,15 @@ at-x c = c .before .before .before .before .before
 abbrev at-end : tie.After-known-told2 → ℕ
 at-end c = at-y (at-x c) + c .before .got-y .given .0 .1 .0
 
-x-read : (c : tie.After-known-told) → Stepped (strict .s4) (lent c) 0 (c .before .got-x .given .0 .0) (at-y c)
+x-read : (c : tie.After-known-told) → Stepped (taken .s4) (lent c) 0 (c .before .got-x .given .0 .0) (at-y c)
 x-read c =
     let r = c .before .before .before in
-    first (strict .s4) (lent c) _ _ (rw (c .before .got-x .given .1) at (s4-answers (lent c) (r .read-s4 .result) (r .read-s4 .ensures)))
+    first (taken .s4) (lent c) _ _ (rw (c .before .got-x .given .1) at (s4-answers (lent c) (r .read-s4 .result) (r .read-s4 .ensures)))
 
-y-read : (c : tie.After-known-told2) → Stepped (strict .s4) (lent (at-x c)) (at-y (at-x c)) (c .before .got-y .given .0 .0) (at-end c)
+y-read : (c : tie.After-known-told2) → Stepped (taken .s4) (lent (at-x c)) (at-y (at-x c)) (c .before .got-y .given .0 .0) (at-end c)
 y-read c =
     let r = c .before .before .before in
-    step (strict .s4) (lent (at-x c)) (at-y (at-x c)) _ _ (x-read (at-x c) .ends) (rw (c .before .got-y .given .1) at (s4-answers _ (r .read-s42 .result) (r .read-s42 .ensures)))
+    step (taken .s4) (lent (at-x c)) (at-y (at-x c)) _ _ (x-read (at-x c) .ends) (rw (c .before .got-y .given .1) at (s4-answers _ (r .read-s42 .result) (r .read-s42 .ensures)))
 
 x-fits : (c : tie.After-known-told) → SFits w32 (c .before .got-x .given .0 .0)
 x-fits c = search needs
@@ -95,7 +95,7 @@ returns-2 c =
     let t = c .before .enum-told2 .given .1 in
     let r = c .before .before .before in
     let k = r .before .before in
-    let b = stop (strict .s4) (lent k) (at-y k) _ _ (rw t at (s4-answers _ (r .read-s42 .result) (r .read-s42 .ensures))) in
+    let b = stop (taken .s4) (lent k) (at-y k) _ _ (rw t at (s4-answers _ (r .read-s42 .result) (r .read-s42 .ensures))) in
     record { same = rw (c .refusal2 .ensures, t, x-read k .reads, b); inside = omega arith }
 
 add-t10 : tie.Need-add-t10

@@ -7,7 +7,7 @@ use denote.Ref.{now}
 use lib.Dec.{leb}
 use Rattle.paper.specs.Refusals.{badRange}
 use Rattle.formats.specs.Format.{Format, such}
-use Rattle.fields.specs.Integers.{strict}
+use Rattle.fields.specs.Integers.{taken}
 use Rattle.integers.specs.Answer.{u4Of}
 use Rattle.touch.proofs.Reading.{test-before, test-holds, test-fails, when-there, when-absent}
 use Prim.Native.Nat.{ℕ}
@@ -16,7 +16,7 @@ use Rattle.touch.proofs.parts.read_up_to.Tie as tie
 
 -- the number, if it is there
 abbrev number : ℕ → Format ℕ
-number most = such (strict .u4) (λ v. leb v most) badRange
+number most = such (taken .u4) (λ v. leb v most) badRange
 
 read-u4-requires : tie.Need-read-u4-requires
 read-u4-requires c κs = search needs

@@ -3,10 +3,10 @@
 use Prim.Native.Nat.{ℕ, zero, suc, _+_, _*_, _/_, _%_, _^_, _<_, _≤_}
 use mathlib.Core.Path.{_≡_, refl, sym, ap, _∙_}
 use mathlib.Core.List.{List, [], _∷_, _++_}
-use native.Mathlib.Nat.{pow-suc, pow-succ', add-mul, mul-assoc, mul-comm, add-assoc, suc-add, add-comm, zero-add, one-mul, one-le-pow, pow-le-pow-right, mul-le-mul, lt-of-lt-of-le, mul-le-mul-right, div-add-mod', div-div-eq-div-mul, mul-suc, mod-lt, mul-add-div-right, mul-add-mod-self-right}
+use native.Mathlib.Nat.{pow-suc, pow-succ', add-mul, mul-assoc, mul-comm, add-assoc, suc-add, add-comm, zero-add, one-mul, one-le-pow, pow-le-pow-right, mul-le-mul, lt-of-lt-of-le, mul-le-mul-right, div-add-mod', div-div-eq-div-mul, mul-suc, mul-add-div-right, mul-add-mod-self-right}
 use native.Mathlib.Omega.{arith}
 use lib.Dec.{lit<}
-use lib.ListN.{length, getD, take, drop}
+use lib.ListN.{length, take, drop}
 use lib.Seq.{getD-drop}
 use lib.Pow.{pow-add}
 use lib.Arith.{digits-div, digits-mod, mod-mul}
@@ -116,10 +116,3 @@ digits-low (suc c) x y = rw (up, mul-add-div-right (pow-pos c) (x * 256) y, mul-
 -- the digits of a high part and c low digits
 pub digits-high : (i c x : ℕ) {y : ℕ} → y < 256 ^ c → digits (i + c) (x * 256 ^ c + y) ≡ digits i x ++ digits c y
 digits-high i c x {y} h = rw (digits-append, digits-div x h, digits-low)
-
--- every digit is a byte
-pub digits-bytes : (c n : ℕ) → Bytes (digits c n)
-unfolding digits
-digits-bytes zero n i = lit< tt
-digits-bytes (suc c) n zero = mod-lt (n / 256 ^ c) (lit< tt)
-digits-bytes (suc c) n (suc i) = digits-bytes c n i

@@ -7,8 +7,7 @@ use native.Mathlib.Omega.{arith}
 use lib.ListN.{length}
 use Rattle.formats.specs.Answer.{Answers}
 use Rattle.integers.specs.Integer.{Reading, value, refused}
-use Rattle.integers.specs.Answer.{u2Of, s2Of, u4Of, s4Of, u8Of}
-use Rattle.integers.specs.declared.ReadU2.{ReadU2}
+use Rattle.integers.specs.Answer.{s2Of, u4Of, s4Of, u8Of}
 use Rattle.integers.specs.declared.ReadS2.{ReadS2}
 use Rattle.integers.specs.declared.ReadS2.the-variants as S2
 use Rattle.integers.specs.declared.ReadU4.{ReadU4}
@@ -18,7 +17,7 @@ use Rattle.integers.specs.declared.ReadU8.{ReadU8}
 use Rattle.integers.proofs.Signed.{signed-again}
 use Rattle.fields.specs.Integers.{Shape, unsigned, signed, gotBy, integer, takenReading, taken}
 use Rattle.fields.proofs.Order.{taken-inside}
-use Rattle.fields.specs.Answer.{lengthOf, u2Got, u4Got, u8Got, s2Got, s4Got}
+use Rattle.fields.specs.Answer.{lengthOf, u4Got, u8Got, s2Got, s4Got}
 
 -- a reading ends inside what it was given
 pub taken-length : (k g : ℕ) (l : List ℕ) → lengthOf (takenReading k g l) ≤ length l
@@ -32,9 +31,6 @@ pub answers : {A : Type 0} (h : Shape A) (k g : ℕ) (l : List ℕ) (x : Reading
 answers h k g l x e = record { same = ap (λ (y : Reading). gotBy (h .made) y l) e; inside = rw e (taken-length k g l) }
 
 module _ (l : List ℕ) where
-  pub u2-answers : (r : ReadU2) → u2Of r ≡ takenReading 1 0 l → Answers (taken .u2) l (u2Got r l) (lengthOf (u2Of r))
-  u2-answers r e = answers unsigned 1 0 l (u2Of r) e
-
   pub u4-answers : (r : ReadU4) → u4Of r ≡ takenReading 2 0 l → Answers (taken .u4) l (u4Got r l) (lengthOf (u4Of r))
   u4-answers r e = answers unsigned 2 0 l (u4Of r) e
 

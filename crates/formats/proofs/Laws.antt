@@ -120,19 +120,6 @@ module _ {A : Type 0} (f : Format A) (q : A → Bool) (e : ℕ) where
   pub such-short : Short f → Short (such f q e)
   such-short sf l b t hl h = sf l b t hl (such-got l b t h .0)
 
-module _ {A : Type 0} (f : Format A) (z : A) where
-  pub when-back : (c : Bool) → Back f → Back (when c f z)
-  when-back true h = h
-  when-back false h = done-back z
-
-  pub when-sound : (c : Bool) → Sound f → Sound (when c f z)
-  when-sound true h = h
-  when-sound false h = done-sound z
-
-  pub when-exact : (c : Bool) → Exact f → Exact (when c f z)
-  when-exact true h = h
-  when-exact false h = done-exact z
-
 -- as many as there are
 pub each-length : {A : Type 0} (H : Bool → A → Type 0) (first : Bool) (n : ℕ) (s : List A) → Each H first n s → length s ≡ n
 unfolding Each
@@ -385,9 +372,3 @@ module _ {X : Type 0} {A : Type 0} (f : Format A) (h : Law X f) where
   apart a b t u ha hb e =
       let p : got a t ≡ got b u = sym (h .back a t ha) ∙ (rw e (h .back b u hb)) in
       (cc, cc)
-
-  -- what was read stays read, whatever is put behind
-  pub grows : X → (l : List ℕ) (a : A) (t m : List ℕ) → Bytes l → f .read l ≡ got a t → f .read (l ++ m) ≡ got a (t ++ m)
-  grows x l a t m hl e =
-      let w : l ≡ f .write a ++ t = h .exact x l a t hl e in
-      rw (w, append-assoc) (h .back a (t ++ m) (h .sound l a t hl e .0))

@@ -5,7 +5,7 @@ use mathlib.Core.Path.{_≡_, refl, sym, ap, _∙_}
 use mathlib.Core.Bool.{Bool, false}
 use mathlib.Core.List.{List, [], _∷_}
 use native.Mathlib.Omega.{arith}
-use lib.ListN.{length, getD, take, drop, length-drop, length-take, drop-of-length-le}
+use lib.ListN.{length, getD, take, drop, length-drop, drop-of-length-le}
 use lib.Seq.{take-all, drop-drop, drop-cons}
 use native.Mathlib.Numerals.{sub-one}
 use Rattle.formats.specs.Format.{Got, got, bad, Format, andThen, readSeries, ended, readByte}
@@ -79,12 +79,6 @@ module _ {A : Type 0} (r : Bool → List ℕ → Got A) where
 pub skipped-made : {A B : Type 0} (h : A → B) (x : Got A) → skipped (andThen x (λ a t. got (h a) t)) ≡ skipped x
 skipped-made h (got a t) = refl
 skipped-made h (bad e) = refl
-
-pub refusal-made : {A B : Type 0} (h : A → B) (e : ℕ) (x : Got A) → refusalOf (andThen (andThen x (λ a t. got (h a) t)) (ended e)) ≡ refusalOf (andThen (skipped x) (ended e))
-unfolding ended
-refusal-made h e (got a []) = refl
-refusal-made h e (got a (y ∷ t)) = refl
-refusal-made h e (bad x) = refl
 
 -- bytes are left where the end comes before the length
 pub ended-bad : {A : Type 0} (e : ℕ) (a : A) (at : ℕ) (s : List ℕ) → at < length s → ended e a (drop at s) ≡ bad e

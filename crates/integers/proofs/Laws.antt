@@ -1,7 +1,7 @@
 -- The laws of reading and writing, over t values of the magnitude's bits of byte one and q of the sign's, and over the numbers k of count
 -- bits and g of sign bits. Each of the five kinds is an instance.
 -- Assumes nothing.
-use Prim.Native.Nat.{ℕ, zero, suc, _+_, _-_, _*_, _/_, _%_, _^_, _<_, _≤_}
+use Prim.Native.Nat.{ℕ, suc, _+_, _-_, _*_, _/_, _%_, _^_, _<_, _≤_}
 use mathlib.Core.Path.{_≡_, refl, sym, ap, _∙_}
 use mathlib.Core.List.{List, [], _∷_, _++_}
 use mathlib.Core.Bool.{Bool, true, false, cond}
@@ -15,11 +15,11 @@ use lib.Arith.{digits-div, digits-mod}
 use borrow.Author.Tests.{ltb-true, ltb-false, lt-ltb, le-ltb, eqb-true, eq-eqb, ne-eqb, leb-true, le-leb, lt-leb}
 use Rattle.paper.specs.Refusals.{truncated, notShortest, badRange}
 use Rattle.digits.specs.Digits.{joined, digits, Bytes}
-use Rattle.digits.proofs.Laws.{bytes-take, pow-pos, joined-whole, joined-div, joined-small, digits-joined, length-digits, digits-bytes}
+use Rattle.digits.proofs.Laws.{bytes-take, pow-pos, joined-whole, joined-div, joined-small, digits-joined, length-digits}
 use Rattle.slices.specs.Writing.{bytes, refuse}
 use Rattle.integers.specs.Integer.{Reading, value, refused, decoded, furthest, fewest, only, decodedOnly, formed, written, countOf, signOf, tops, signs, limit, reading, writing, draft}
 use Rattle.integers.proofs.Fewest.{fewest-fits, fewest-least}
-use Rattle.integers.proofs.ByteOne.{tops-pos, signs-pos, count-range, held, top-byte}
+use Rattle.integers.proofs.ByteOne.{tops-pos, signs-pos, count-range, held}
 
 -- ---- decoding, at any length
 
@@ -195,11 +195,6 @@ pub only-form-more : (t q : ℕ) (l more : List ℕ) (x : Reading) → decodedOn
 unfolding decodedOnly only
 only-form-more t q l more x e other = ap (only t) (decoded-more t q l more (decoded t q l) refl (λ d. other (sym e ∙ ap (only t) d))) ∙ e
 
--- 5 where the list ends inside the integer or before it
-pub only-form-short : (t q : ℕ) (l : List ℕ) → length l ≤ countOf t q (getD l 0 0) → decodedOnly t q l ≡ refused truncated
-unfolding decodedOnly only
-only-form-short t q l h = ap (only t) (decoded-short t q l h)
-
 -- what is decoded is refused with 5 alone
 pub decoded-refused : (t q : ℕ) (l : List ℕ) (e : ℕ) → decoded t q l ≡ refused e → e ≡ truncated
 decoded-refused t q l e h = go (decoded-cases t q l)
@@ -283,19 +278,6 @@ length-and-value k g hk h =
     }
 
 -- ---- what is written
-
-pub writing-bytes : (k g s m : ℕ) → k ≤ 3 → k + g ≤ 8 → s < signs g → m < limit k g → Bytes (writing k g s m)
-unfolding formed
-writing-bytes k g s m hk h hs hm zero =
-    let w = held k g m hk h hm in
-    let c : ℕ = fewest furthest (tops k g) m in
-    top-byte (tops k g) (signs g) c s (m / 256 ^ c) hs (div-lt-iff-lt-mul (pow-pos c) .1 (w .fits)) (w .counted) .whole
-writing-bytes k g s m hk h hs hm (suc i) = digits-bytes (fewest furthest (tops k g) m) m i
-
-pub writing-length : (k g s m : ℕ) → k ≤ 3 → k + g ≤ 8 → m < limit k g → (0 < length (writing k g s m)) × (length (writing k g s m) ≤ 2 ^ k)
-writing-length k g s m hk h hm =
-    let l = length-formed (tops k g) (signs g) (fewest furthest (tops k g) m) s m in
-    (omega arith, omega (arith, held k g m hk h hm .most))
 
 -- a magnitude that is less is written no longer
 pub writing-shorter : (k g s m n : ℕ) → k ≤ 3 → k + g ≤ 8 → m ≤ n → n < limit k g → length (writing k g s m) ≤ length (writing k g s n)

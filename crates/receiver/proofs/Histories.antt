@@ -41,10 +41,10 @@ use Rattle.contacts.specs.Touch.{touchView}
 -- ---- HISTORIES ARE THOSE OF THE CONTRACT
 
 -- A step that the contract allows leaves, answers and writes what its message does in a history.
-pub a-step-of-the-contract-is-a-step-of-a-history : (r : Receiver) (message before : List ℕ) (q : Receiver) (a : Answer) (after : List ℕ) → Receives r message before q a after
-    → let x : Sent = record { message = message; room = length before } in (q ≡ next r x) × (a ≡ answerTo r x) × (after ≡ laid before (wrote r x))
+pub a-step-of-the-contract-is-a-step-of-a-history : (r : Receiver) (message before : List ℕ) (q : Receiver) (a : Answer) (output : List ℕ) → Receives r message before q a output
+    → let x : Sent = record { message = message; room = length before } in (q ≡ next r x) × (a ≡ answerTo r x) × (output ≡ laid before (wrote r x))
 unfolding next answerTo wrote
-a-step-of-the-contract-is-a-step-of-a-history r message before q a after h =
+a-step-of-the-contract-is-a-step-of-a-history r message before q a output h =
     (h .kept, h .answered, h .output ∙ left-laid before (given (length before) (draftOf (effect r message))))
 
 -- ---- WHAT IS ALWAYS TRUE
@@ -150,7 +150,7 @@ a-rested-receiver-can-be-given-that-frame r x b time fs f gs e room =
 -- ---- "A REFUSAL ANSWERS ITS NUMBER WITH ALL OTHER FIELDS 0; THE RECEIVER .. AND THE OUTPUT STAY AS THEY WERE"
 
 -- Of any step that the contract allows.
-pub a-refusal-changes-nothing : (r : Receiver) (message before : List ℕ) (q : Receiver) (a : Answer) (after : List ℕ) → Receives r message before q a after → (a .refusal ≡ none → ⊥) → Unchanged r before q a after
+pub a-refusal-changes-nothing : (r : Receiver) (message before : List ℕ) (q : Receiver) (a : Answer) (output : List ℕ) → Receives r message before q a output → (a .refusal ≡ none → ⊥) → Unchanged r before q a output
 a-refusal-changes-nothing = refusal-changes-nothing
 
 -- So a refused message of a history is as none.

@@ -72,17 +72,17 @@ pub record PlaceFits (p : Point) : Type 0 where
 
 bare-fits : (flags id : ℕ) (p : Point) → flags < 64 → id < contacts → PlaceFits p → ContactFits (bareContact flags id p)
 bare-fits flags id p hf hi hp =
-    let zero : Holds 15 (pos 0) = record { holds = lit< tt } in
+    let none : Holds 15 (pos 0) = record { holds = lit< tt } in
     record {
       flags = hf;
       present = lit< tt;
       id = hi;
       x = hp .x;
       y = hp .y;
-      left = zero;
-      top = zero;
-      right = zero;
-      bottom = zero;
+      left = none;
+      top = none;
+      right = none;
+      bottom = none;
       orientation = lit< tt;
       pressure = lit< tt;
     }

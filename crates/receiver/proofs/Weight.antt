@@ -149,15 +149,15 @@ module _ (i : Integers) (h : Least i) where
       takes-field _ optionalOf _ 0 0 (takes-optional p) λ o.
       takes-done _
 
-  takes-offset : (judged : Bool) → Takes 1 (offset i judged)
+  takes-offset : (first : Bool) → Takes 1 (offset i first)
   takes-offset true = takes-such _ _ _ 1 (h .u8)
   takes-offset false = h .u8
 
-  takes-frame-head : (judged : Bool) → Takes 2 (frameHead i judged)
+  takes-frame-head : (first : Bool) → Takes 2 (frameHead i first)
   unfolding frameHeadFormat
-  takes-frame-head judged =
+  takes-frame-head first =
       takes-field _ (λ g. g .count) _ 1 1 (takes-such _ _ _ 1 (h .u2)) λ n.
-      takes-field (offset i judged) (λ g. g .offset .0) _ 1 0 (takes-offset judged) λ o.
+      takes-field (offset i first) (λ g. g .offset .0) _ 1 0 (takes-offset first) λ o.
       takes-done _
 
   takes-touch-head : Takes 2 (touchHead i)
@@ -200,15 +200,15 @@ frames-take b (suc n) l fs t h =
     omega (arith, a, c, d, ap weight (m .all))
 
 -- a body's frames weigh at most half its bytes
-pub body-weight : (judged : Bool) (l : List ℕ) (m : Touch) (t : List ℕ) → body taken judged l ≡ got m t → 2 * weight (m .frames) ≤ length l
+pub body-weight : (first : Bool) (l : List ℕ) (m : Touch) (t : List ℕ) → body taken first l ≡ got m t → 2 * weight (m .frames) ≤ length l
 unfolding bodyFormat
-body-weight judged l m t h = go (touchHead taken .read l) refl
+body-weight first l m t h = go (touchHead taken .read l) refl
   where
     go : (x : Got BodyHead) → touchHead taken .read l ≡ x → 2 * weight (m .frames) ≤ length l
     go (bad e) w = formats.never e m t (rw w at h)
     go (got g u) w =
-        let b = body-got taken touchLimits (contact taken) judged l m t g u h w in
-        omega (arith, takes-touch-head taken least-taken .least l g u w, frames-take judged (g .frames) u (m .frames) [] (b .frames))
+        let b = body-got taken touchLimits (contact taken) first l m t g u h w in
+        omega (arith, takes-touch-head taken least-taken .least l g u w, frames-take first (g .frames) u (m .frames) [] (b .frames))
 
 weight-timed : (b : Bool) (fs : List (Frame Contact)) → weight (timedFrames b fs) ≡ weight fs
 unfolding weight timedFrames

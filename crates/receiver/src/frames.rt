@@ -10,7 +10,7 @@ use touch::CheckedBody;
 ghost use mathlib.Core.Path.{_≡_};
 ghost use mathlib.Core.Bool.{cond, not};
 ghost use Rattle.contacts.specs.Ruling.{tableFrom, Counted};
-ghost use Rattle.receiver.specs.Receive.{mark, untimedBy, judgedBy, untimed};
+ghost use Rattle.receiver.specs.Receive.{mark, untimedBy, judgedBy};
 ghost use Rattle.receiver.specs.Events.{ofParts, turned, answerOfRun, Gives, touchEffect, Tallies, Rooms, Carries};
 ghost use Rattle.framing.specs.Frame.{begunBy};
 

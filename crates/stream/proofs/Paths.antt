@@ -42,41 +42,41 @@ records-one read s t h =
 
 -- ---- bytes that lead a contact from one state and position to another, whatever follows
 
-module _ {R : Type 0} (next : ℕ → ℕ → ℕ) (read : List ℕ → R) (seen : R → Seen) where
+module _ {R : Type 0} (table : ℕ → ℕ → ℕ) (read : List ℕ → R) (seen : R → Seen) where
   pub record Leads (id s : ℕ) (p : Point) (bytes : List ℕ) (s′ : ℕ) (p′ : Point) : Type 0 where
-    pub leads : (rest : List ℕ) → path next seen id (recordsIn read (bytes ++ rest)) s p ≡ path next seen id (recordsIn read rest) s′ p′
+    pub leads : (rest : List ℕ) → path table seen id (recordsIn read (bytes ++ rest)) s p ≡ path table seen id (recordsIn read rest) s′ p′
 
   -- from the one table to the other
   abbrev pub Moves : ℕ → Table → List ℕ → Table → Type 0
   Moves id t bytes u = Leads id (stateAt t id) (placeAt t id) bytes (stateAt u id) (placeAt u id)
 
-module _ {R : Type 0} {next : ℕ → ℕ → ℕ} {read : List ℕ → R} {seen : R → Seen} where
-  leads-none : (id s : ℕ) (p : Point) → Leads next read seen id s p [] s p
+module _ {R : Type 0} {table : ℕ → ℕ → ℕ} {read : List ℕ → R} {seen : R → Seen} where
+  leads-none : (id s : ℕ) (p : Point) → Leads table read seen id s p [] s p
   leads-none id s p = record { leads = λ rest. refl }
 
-  leads-then : (id s : ℕ) (p : Point) (a : List ℕ) (s′ : ℕ) (p′ : Point) (b : List ℕ) (s″ : ℕ) (p″ : Point) → Leads next read seen id s p a s′ p′ → Leads next read seen id s′ p′ b s″ p″ → Leads next read seen id s p (a ++ b) s″ p″
+  leads-then : (id s : ℕ) (p : Point) (a : List ℕ) (s′ : ℕ) (p′ : Point) (b : List ℕ) (s″ : ℕ) (p″ : Point) → Leads table read seen id s p a s′ p′ → Leads table read seen id s′ p′ b s″ p″ → Leads table read seen id s p (a ++ b) s″ p″
   leads-then id s p a s′ p′ b s″ p″ h k =
       record { leads = λ rest. rw (append-assoc a b rest) (h .leads (b ++ rest) ∙ k .leads rest) }
 
-  leads-one : (id s : ℕ) (p : Point) (bytes : List ℕ) (x : Seen) (s′ : ℕ) (p′ : Point) → length bytes ≡ recordBytes → ((rest : List ℕ) → seen (read (bytes ++ rest)) ≡ x) → pathStep next id x s p ≡ at s′ p′ → Leads next read seen id s p bytes s′ p′
+  leads-one : (id s : ℕ) (p : Point) (bytes : List ℕ) (x : Seen) (s′ : ℕ) (p′ : Point) → length bytes ≡ recordBytes → ((rest : List ℕ) → seen (read (bytes ++ rest)) ≡ x) → pathStep table id x s p ≡ at s′ p′ → Leads table read seen id s p bytes s′ p′
   unfolding path
   leads-one id s p bytes x s′ p′ l r e =
-      record { leads = λ rest. rw (records-one read bytes rest l, r rest) (ap (λ (q : Path). andOn q (path next seen id (recordsIn read rest))) e) }
+      record { leads = λ rest. rw (records-one read bytes rest l, r rest) (ap (λ (q : Path). andOn q (path table seen id (recordsIn read rest))) e) }
 
-  moves-none : (id : ℕ) (t : Table) → Moves next read seen id t [] t
+  moves-none : (id : ℕ) (t : Table) → Moves table read seen id t [] t
   moves-none id t = leads-none id (stateAt t id) (placeAt t id)
 
-  moves-then : (id : ℕ) (t : Table) (a : List ℕ) (u : Table) (b : List ℕ) (v : Table) → Moves next read seen id t a u → Moves next read seen id u b v → Moves next read seen id t (a ++ b) v
+  moves-then : (id : ℕ) (t : Table) (a : List ℕ) (u : Table) (b : List ℕ) (v : Table) → Moves table read seen id t a u → Moves table read seen id u b v → Moves table read seen id t (a ++ b) v
   moves-then id t a u b v h k =
       leads-then id (stateAt t id) (placeAt t id) a (stateAt u id) (placeAt u id) b (stateAt v id) (placeAt v id) h k
 
   -- all that was written, from a resting table on
-  pub moves-path : (id : ℕ) (t : Table) (bytes : List ℕ) (u : Table) → t ≡ resting → Moves next read seen id t bytes u → path next seen id (recordsIn read bytes) out origin ≡ at (stateAt u id) (placeAt u id)
+  pub moves-path : (id : ℕ) (t : Table) (bytes : List ℕ) (u : Table) → t ≡ resting → Moves table read seen id t bytes u → path table seen id (recordsIn read bytes) out origin ≡ at (stateAt u id) (placeAt u id)
   unfolding path recordsIn recordsFrom
   moves-path id t bytes u e h =
       let a = ap (λ (v : Table). stateAt v id) e ∙ resting-state id in
       let b = ap (λ (v : Table). placeAt v id) e ∙ resting-place id in
-      (λ i. path next seen id (recordsIn read bytes) (sym a i) (sym b i)) ∙ rw append-nil at (h .leads [])
+      (λ i. path table seen id (recordsIn read bytes) (sym a i) (sym b i)) ∙ rw append-nil at (h .leads [])
 
 -- ---- a position is the same as itself
 

@@ -22,7 +22,7 @@ use Rattle.house.specs.declared.Contact.{Contact}
 use Rattle.framing.specs.Frame.{Frame}
 use Rattle.writing.specs.Records.{framesIn}
 use Rattle.writing.specs.TouchDraft.{messageOf, framesDraft, touchDraft}
-use Rattle.writing.specs.Filling.{Lays}
+use Rattle.writing.specs.Filling.{WritesPart}
 use Rattle.writing.specs.Spelling.{Spelt, bodyOf, counted}
 use Rattle.writing.proofs.Filling.{Room, room, lays-done, lays-count, lays-refusal}
 use Rattle.writing.proofs.Spelt.{spelling-of}
@@ -86,7 +86,7 @@ module _ (time : Milliseconds) (l : List ℕ) (early : time .0 < limit 2 0) wher
           spelling-of time l (f .frames) (f .after) hl (f .read) .same
           ∙ ap (λ (k : ℕ). header event.touch (headerBytes + length (bodyOf time k (length l / 21) l)) ++ bodyOf time k (length l / 21) l) (f .count)
 
-      module _ (w : Written) (d after : List ℕ) (size : length d ≡ mostBytes) (h : Lays spelled w d after) where
+      module _ (w : Written) (d after : List ℕ) (size : length d ≡ mostBytes) (h : WritesPart spelled w d after) where
         -- 2
         pub draft-too-long : (w .refusal ≡ 0 → ⊥) → touchDraft time l ≡ refuse tooLong
         draft-too-long e = go (room (length spelled) (length d))

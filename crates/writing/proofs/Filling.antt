@@ -19,7 +19,7 @@ use Rattle.integers.specs.Integer.{writing, draft, limit}
 use Rattle.integers.proofs.Laws.{draft-bytes}
 use Rattle.messages.specs.Header.{header, headerBytes}
 use Rattle.messages.proofs.Laws.{header-long}
-use Rattle.writing.specs.Filling.{Lays, both}
+use Rattle.writing.specs.Filling.{WritesPart, both}
 
 -- there is room, or not
 pub data Room (n room : ℕ) : Type 0 where
@@ -34,10 +34,10 @@ room n m = go (leb n m) refl
     go false e = short (leb-false _ _ e)
 
 -- a writer that refuses for want of room alone
-pub lays-writes : (s : List ℕ) (w : Written) (before after : List ℕ) → Writes (bytes s) w before after → Lays s w before after
+pub lays-writes : (s : List ℕ) (w : Written) (before after : List ℕ) → Writes (bytes s) w before after → WritesPart s w before after
 lays-writes s w b a h = go (room (length s) (length b))
   where
-    go : Room (length s) (length b) → Lays s w b a
+    go : Room (length s) (length b) → WritesPart s w b a
     go (enough k) =
         let d = writes-done s w b a h k in
         let o = d .output in
@@ -61,11 +61,11 @@ lays-writes s w b a h = go (room (length s) (length b))
         }
 
 -- nothing is always written
-pub lays-none : (d : List ℕ) → Lays [] (record { refusal = 0; bytes = 0 }) d d
+pub lays-none : (d : List ℕ) → WritesPart [] (record { refusal = 0; bytes = 0 }) d d
 lays-none d = record { answer = λ r. refl; output = λ r. refl; full = λ r. absurd (omega (arith, r)); inside = omega arith; kept = refl }
 
 -- a part that was written or not
-module _ (s : List ℕ) (w : Written) (before after : List ℕ) (h : Lays s w before after) where
+module _ (s : List ℕ) (w : Written) (before after : List ℕ) (h : WritesPart s w before after) where
   pub lays-done : w .refusal ≡ 0 → length s ≤ length before
   lays-done e = go (room (length s) (length before))
     where
@@ -87,11 +87,11 @@ pub back-long : (d l : List ℕ) (n : ℕ) → n ≤ length d → length l ≡ l
 back-long d l n h e = ap length (tail-back d l n) ∙ simp (length-append, length-take) (omega (arith, e, tail-long d n, h))
 
 -- the next part begins inside the output
-pub left-by : {s : List ℕ} {w : Written} {before after : List ℕ} → Lays s w before after → w .bytes ≤ length after
+pub left-by : {s : List ℕ} {w : Written} {before after : List ℕ} → WritesPart s w before after → w .bytes ≤ length after
 left-by h = omega (arith, h .inside, h .kept)
 
 -- TWO PARTS, THE SECOND THROUGH THE TAIL THAT THE FIRST LEFT
-module _ (s t d d₁ l : List ℕ) (v w : Written) (hv : Lays s v d d₁) (hw : Lays t w (midOf (v .bytes) (length d₁ - v .bytes) d₁) l) where
+module _ (s t d d₁ l : List ℕ) (v w : Written) (hv : WritesPart s v d d₁) (hw : WritesPart t w (midOf (v .bytes) (length d₁ - v .bytes) d₁) l) where
   lent : length (midOf (v .bytes) (length d₁ - v .bytes) d₁) ≡ length d - v .bytes
   lent = tail-long d₁ (v .bytes) ∙ ap (λ (n : ℕ). n - v .bytes) (hv .kept)
 
@@ -104,7 +104,7 @@ module _ (s t d d₁ l : List ℕ) (v w : Written) (hv : Lays s v d d₁) (hw : 
       let n = lays-count s v d d₁ hv (omega (arith, a, k)) in
       (omega (arith, a, k), omega (arith, a, k, n, lent))
 
-  pub lays-both : Lays (s ++ t) (both v w) d (putMid (v .bytes) (length d₁ - v .bytes) d₁ l)
+  pub lays-both : WritesPart (s ++ t) (both v w) d (putMid (v .bytes) (length d₁ - v .bytes) d₁ l)
   lays-both =
       record {
         answer = λ k.
@@ -129,30 +129,30 @@ module _ (s t d d₁ l : List ℕ) (v w : Written) (hv : Lays s v d d₁) (hw : 
           rw (ne-eqb (v .refusal) 0 (λ z. omega (arith, z, e))) e
 
 -- as code joins them, under the whole's own name
-pub lays-joined : {s t d d₁ l : List ℕ} {v w : Written} (r : Written) (u : List ℕ) → Lays s v d d₁ → Lays t w (midOf (v .bytes) (length d₁ - v .bytes) d₁) l → r ≡ both v w → s ++ t ≡ u
-    → Lays u r d (putMid (v .bytes) (length d₁ - v .bytes) d₁ l)
+pub lays-joined : {s t d d₁ l : List ℕ} {v w : Written} (r : Written) (u : List ℕ) → WritesPart s v d d₁ → WritesPart t w (midOf (v .bytes) (length d₁ - v .bytes) d₁) l → r ≡ both v w → s ++ t ≡ u
+    → WritesPart u r d (putMid (v .bytes) (length d₁ - v .bytes) d₁ l)
 lays-joined {s} {t} {d} {d₁} {l} {v} {w} r u hv hw e q = rw (← q, e) (lays-both s t d d₁ l v w hv hw)
 
-pub joined-room : {s t d d₁ l : List ℕ} {v w : Written} → Lays s v d d₁ → Lays t w (midOf (v .bytes) (length d₁ - v .bytes) d₁) l → v .bytes + w .bytes ≤ length d
+pub joined-room : {s t d d₁ l : List ℕ} {v w : Written} → WritesPart s v d d₁ → WritesPart t w (midOf (v .bytes) (length d₁ - v .bytes) d₁) l → v .bytes + w .bytes ≤ length d
 joined-room {s} {t} {d} {d₁} {l} {v} {w} hv hw = both-room s t d d₁ l v w hv hw
 
 -- an integer that is in range
-pub lays-integer : (k g s m : ℕ) (w : Written) (before after : List ℕ) → m < limit k g → Writes (draft k g s m) w before after → Lays (writing k g s m) w before after
+pub lays-integer : (k g s m : ℕ) (w : Written) (before after : List ℕ) → m < limit k g → Writes (draft k g s m) w before after → WritesPart (writing k g s m) w before after
 lays-integer k g s m w b a h e = lays-writes (writing k g s m) w b a (rw (draft-bytes k g s m h) at e)
 
 -- a part that may be absent
-pub lays-there : (c : Bool) (s : List ℕ) (w : Written) (before after : List ℕ) → c ≡ true → Lays s w before after → Lays (cond c s []) w before after
+pub lays-there : (c : Bool) (s : List ℕ) (w : Written) (before after : List ℕ) → c ≡ true → WritesPart s w before after → WritesPart (cond c s []) w before after
 lays-there c s w b a e h = rw e h
 
-pub lays-absent : (c : Bool) (s : List ℕ) (w : Written) (d : List ℕ) → c ≡ false → w ≡ record { refusal = 0; bytes = 0 } → Lays (cond c s []) w d d
+pub lays-absent : (c : Bool) (s : List ℕ) (w : Written) (d : List ℕ) → c ≡ false → w ≡ record { refusal = 0; bytes = 0 } → WritesPart (cond c s []) w d d
 lays-absent c s w d e h = rw (e, h) (lays-none d)
 
 -- one byte
-pub lays-byte : (x : ℕ) (d : List ℕ) → 1 ≤ length d → Lays (x ∷ []) (record { refusal = 0; bytes = 1 }) d (set d 0 x)
+pub lays-byte : (x : ℕ) (d : List ℕ) → 1 ≤ length d → WritesPart (x ∷ []) (record { refusal = 0; bytes = 1 }) d (set d 0 x)
 lays-byte x [] h = absurd (omega (arith, h))
 lays-byte x (y ∷ d) h = record { answer = λ r. refl; output = λ r. refl; full = λ r. absurd (omega (arith, r)); inside = omega arith; kept = refl }
 
-pub lays-no-byte : (x : ℕ) (w : Written) (d : List ℕ) → length d < 1 → w ≡ record { refusal = noRoom; bytes = 0 } → Lays (x ∷ []) w d d
+pub lays-no-byte : (x : ℕ) (w : Written) (d : List ℕ) → length d < 1 → w ≡ record { refusal = noRoom; bytes = 0 } → WritesPart (x ∷ []) w d d
 lays-no-byte x w d h e =
     record {
       answer = λ r. absurd (omega (arith, r, h));
@@ -183,7 +183,7 @@ module _ {whole rest d₀ d : List ℕ} {at : ℕ} (p : Partly whole rest d₀ d
   partly-inside = omega (arith, p .room, partly-long)
 
 -- all is written
-pub partly-all : {whole d₀ d : List ℕ} {at : ℕ} → Partly whole [] d₀ d at → Lays whole (record { refusal = 0; bytes = at }) d₀ d
+pub partly-all : {whole d₀ d : List ℕ} {at : ℕ} → Partly whole [] d₀ d at → WritesPart whole (record { refusal = 0; bytes = at }) d₀ d
 partly-all {whole} {d₀} {d} {at} p =
     let e : whole ≡ p .done = p .split ∙ append-nil (p .done) in
     let n : at ≡ length whole = sym (p .count) ∙ ap length (sym e) in
@@ -195,7 +195,7 @@ partly-all {whole} {d₀} {d} {at} p =
       kept = partly-long p;
     }
 
-module _ (s rest : List ℕ) {whole d₀ d : List ℕ} {at : ℕ} (p : Partly whole (s ++ rest) d₀ d at) {w : Written} {l : List ℕ} (h : Lays s w (midOf at (length d - at) d) l) where
+module _ (s rest : List ℕ) {whole d₀ d : List ℕ} {at : ℕ} (p : Partly whole (s ++ rest) d₀ d at) {w : Written} {l : List ℕ} (h : WritesPart s w (midOf at (length d - at) d) l) where
   -- one part more
   pub partly-more : w .refusal ≡ 0 → Partly whole rest d₀ (putMid at (length d - at) d l) (at + w .bytes)
   partly-more e =
@@ -212,7 +212,7 @@ module _ (s rest : List ℕ) {whole d₀ d : List ℕ} {at : ℕ} (p : Partly wh
       }
 
   -- no room for it
-  pub partly-stop : (w .refusal ≡ 0 → ⊥) → Lays whole w d₀ (putMid at (length d - at) d l)
+  pub partly-stop : (w .refusal ≡ 0 → ⊥) → WritesPart whole w d₀ (putMid at (length d - at) d l)
   partly-stop e =
       let b : length (midOf at (length d - at) d) < length s = go (room (length s) (length (midOf at (length d - at) d))) in
       let long : length whole ≡ at + (length s + length rest) =
@@ -232,7 +232,7 @@ module _ (s rest : List ℕ) {whole d₀ d : List ℕ} {at : ℕ} (p : Partly wh
 
 -- ---- a header over the front, once the body behind it is written
 
-module _ (e : ℕ) (s d l d₂ : List ℕ) (w v : Written) (h : Lays s w (midOf headerBytes (length d - headerBytes) d) l) (k : headerBytes ≤ length d)
+module _ (e : ℕ) (s d l d₂ : List ℕ) (w v : Written) (h : WritesPart s w (midOf headerBytes (length d - headerBytes) d) l) (k : headerBytes ≤ length d)
     (x : Writes (bytes (header e (headerBytes + w .bytes))) v (putMid headerBytes (length d - headerBytes) d l) d₂) where
   under : length (putMid headerBytes (length d - headerBytes) d l) ≡ length d
   under = back-long d l headerBytes k (h .kept)
@@ -252,7 +252,7 @@ module _ (e : ℕ) (s d l d₂ : List ℕ) (w v : Written) (h : Lays s w (midOf 
       rw (head-long n, drop-at (take headerBytes d) (laid (drop headerBytes d) s) headerBytes (length-take-le headerBytes d k), length-append (header e n) s, head-long n, drop-drop (length s) headerBytes d)
       (sym (append-assoc (header e n) s (drop (headerBytes + length s) d)))
 
-  pub lays-message : Lays (header e (headerBytes + length s) ++ s) (record { refusal = w .refusal; bytes = headerBytes + w .bytes }) d d₂
+  pub lays-message : WritesPart (header e (headerBytes + length s) ++ s) (record { refusal = w .refusal; bytes = headerBytes + w .bytes }) d d₂
   lays-message =
       record {
         answer = λ r.

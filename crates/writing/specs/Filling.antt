@@ -10,7 +10,7 @@ use Rattle.slices.specs.Writing.{laid}
 use Rattle.slices.specs.declared.Written.{Written}
 
 -- s was written at the front, where there was room; where there was not, the refusal says so, and of the output only its length is said
-pub record Lays (s : List ℕ) (w : Written) (before after : List ℕ) : Type 0 where
+pub record WritesPart (s : List ℕ) (w : Written) (before after : List ℕ) : Type 0 where
   pub answer : length s ≤ length before → w ≡ record { refusal = none; bytes = length s }
   pub output : length s ≤ length before → after ≡ laid before s
   pub full : length before < length s → w .refusal ≡ noRoom

@@ -5,7 +5,7 @@ ghost use Rattle.formats.specs.Format.{byte};
 ghost use Rattle.fields.specs.Integers.{taken};
 ghost use Rattle.house.specs.WellFormed.{has};
 ghost use Rattle.touch.specs.Touch.{point, contact, optional, optionalOf};
-ghost use Rattle.writing.specs.Filling.{Lays};
+ghost use Rattle.writing.specs.Filling.{WritesPart};
 use crate::parts::join;
 use crate::parts::write_byte;
 use crate::parts::write_number;
@@ -25,7 +25,7 @@ const PRESSURE: u16 = 4;
 
 // Orientation and pressure, each where fieldsPresent says that it is there.
 fn write_numbers(out: &mut [u8], present: u8, turn: u16, press: u16) -> Written
-    ensures { λ r. ⌜ Lays (cond (has 2 present) (taken .u4 .write turn) [] ++ cond (has 4 present) (taken .u4 .write press) []) r (now (out .entry)) (now (out .exit)) ⌝ }
+    ensures { λ r. ⌜ WritesPart (cond (has 2 present) (taken .u4 .write turn) [] ++ cond (has 4 present) (taken .u4 .write press) []) r (now (out .entry)) (now (out .exit)) ⌝ }
 {
     let first = write_number(out, has_field(present as u16, ORIENTATION), turn as u32);
     let at_press = first.bytes;
@@ -42,7 +42,7 @@ fn write_numbers(out: &mut [u8], present: u8, turn: u16, press: u16) -> Written
 // The fields that fieldsPresent says are there.
 fn write_optional(out: &mut [u8], touch: Contact) -> Written
     requires { ⌜ optional taken (touch .present) .Holds (optionalOf touch) ⌝ }
-    ensures { λ r. ⌜ Lays (optional taken (touch .present) .write (optionalOf touch)) r (now (out .entry)) (now (out .exit)) ⌝ }
+    ensures { λ r. ⌜ WritesPart (optional taken (touch .present) .write (optionalOf touch)) r (now (out .entry)) (now (out .exit)) ⌝ }
 {
     let sides = write_sides(out, has_field(touch.present as u16, SIDES), touch.sides);
     let at_turn = sides.bytes;
@@ -59,7 +59,7 @@ fn write_optional(out: &mut [u8], touch: Contact) -> Written
 
 // The id and fieldsPresent.
 fn write_lead(out: &mut [u8], id: u8, present: u8) -> Written
-    ensures { λ r. ⌜ Lays (byte .write id ++ taken .u2 .write present) r (now (out .entry)) (now (out .exit)) ⌝ }
+    ensures { λ r. ⌜ WritesPart (byte .write id ++ taken .u2 .write present) r (now (out .entry)) (now (out .exit)) ⌝ }
 {
     let first = write_byte(out, id);
     let at_present = first.bytes;
@@ -72,7 +72,7 @@ fn write_lead(out: &mut [u8], id: u8, present: u8) -> Written
 // The place and contactFlags.
 fn write_place(out: &mut [u8], place: Point, flags: u8) -> Written
     requires { ⌜ point taken .Holds place ⌝ }
-    ensures { λ r. ⌜ Lays (point taken .write place ++ taken .u4 .write flags) r (now (out .entry)) (now (out .exit)) ⌝ }
+    ensures { λ r. ⌜ WritesPart (point taken .write place ++ taken .u4 .write flags) r (now (out .entry)) (now (out .exit)) ⌝ }
 {
     let first = write_point(out, place);
     let at_flags = first.bytes;
@@ -85,7 +85,7 @@ fn write_place(out: &mut [u8], place: Point, flags: u8) -> Written
 // A contact.
 pub(crate) fn write_contact(out: &mut [u8], touch: Contact) -> Written
     requires { ⌜ contact taken .Holds touch ⌝ }
-    ensures { λ r. ⌜ Lays (contact taken .write touch) r (now (out .entry)) (now (out .exit)) ⌝ }
+    ensures { λ r. ⌜ WritesPart (contact taken .write touch) r (now (out .entry)) (now (out .exit)) ⌝ }
 {
     let lead = write_lead(out, touch.id, touch.present);
     let at_place = lead.bytes;

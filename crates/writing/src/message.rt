@@ -8,7 +8,7 @@ ghost use Rattle.fields.specs.Integers.{taken};
 ghost use Rattle.messages.specs.Header.{header, headerBytes, mostBytes};
 ghost use Rattle.touch.specs.Touch.{touchHead};
 ghost use Rattle.slices.specs.Writing.{Writes};
-ghost use Rattle.writing.specs.Filling.{Lays};
+ghost use Rattle.writing.specs.Filling.{WritesPart};
 ghost use Rattle.writing.specs.Spelling.{Spelt, bodyOf};
 ghost use Rattle.writing.specs.TouchDraft.{touchDraft};
 use crate::Counted;
@@ -27,7 +27,7 @@ const FRAMES_MOST: usize = touch::FRAMES_MOST as usize;
 // What stands before a message's frames: encodeTime and their count.
 fn write_touch_head(out: &mut [u8], time: Milliseconds, frames: u8) -> Written
     requires { ⌜ time .0 < limit 2 0 ⌝ }
-    ensures { λ r. ⌜ Lays (touchHead taken .write (record { time = time; frames = frames })) r (now (out .entry)) (now (out .exit)) ⌝ }
+    ensures { λ r. ⌜ WritesPart (touchHead taken .write (record { time = time; frames = frames })) r (now (out .entry)) (now (out .exit)) ⌝ }
 {
     let first = integers::write_u4(out, time.0);
     let at_count = first.bytes;
@@ -46,7 +46,7 @@ fn write_body(
     count: usize,
 ) -> Written
     requires { ⌜ (time .0 < limit 2 0) × Spelt count (now records) ⌝ }
-    ensures { λ r. ⌜ Lays (bodyOf time frames count (now (records .entry))) r (now (out .entry)) (now (out .exit)) ⌝ }
+    ensures { λ r. ⌜ WritesPart (bodyOf time frames count (now (records .entry))) r (now (out .entry)) (now (out .exit)) ⌝ }
 {
     let head = write_touch_head(out, time, frames);
     let at_frames = head.bytes;
@@ -62,7 +62,7 @@ fn write_message(
     count: usize,
 ) -> Written
     requires { ⌜ (time .0 < limit 2 0) × Spelt count (now records) × (length (now out) ≡ mostBytes) ⌝ }
-    ensures { λ r. ⌜ Lays (header 3 (headerBytes + length (bodyOf time frames count (now (records .entry)))) ++ bodyOf time frames count (now (records .entry))) r (now (out .entry)) (now (out .exit)) ⌝ }
+    ensures { λ r. ⌜ WritesPart (header 3 (headerBytes + length (bodyOf time frames count (now (records .entry)))) ++ bodyOf time frames count (now (records .entry))) r (now (out .entry)) (now (out .exit)) ⌝ }
 {
     let body = write_body(
         &mut out[messages::HEADER_BYTES..],

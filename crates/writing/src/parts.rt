@@ -8,7 +8,7 @@ ghost use Rattle.house.specs.Fits.{noSides};
 ghost use Rattle.integers.specs.Integer.{limit, writing};
 ghost use Rattle.fields.specs.Integers.{taken};
 ghost use Rattle.touch.specs.Touch.{point, sides};
-ghost use Rattle.writing.specs.Filling.{Lays, both};
+ghost use Rattle.writing.specs.Filling.{WritesPart, both};
 use house::Point;
 use house::Sides;
 use slices::Written;
@@ -42,7 +42,7 @@ pub(crate) fn join(first: Written, next: Written) -> Written
 
 // One byte.
 pub(crate) fn write_byte(out: &mut [u8], value: u8) -> Written
-    ensures { λ r. ⌜ Lays (byte .write value) r (now (out .entry)) (now (out .exit)) ⌝ }
+    ensures { λ r. ⌜ WritesPart (byte .write value) r (now (out .entry)) (now (out .exit)) ⌝ }
 {
     if out.len() < 1 {
         return refused(paper::NO_ROOM);
@@ -57,7 +57,7 @@ pub(crate) fn write_byte(out: &mut [u8], value: u8) -> Written
 // A U4 that may be absent: orientation or pressure.
 pub(crate) fn write_number(out: &mut [u8], there: bool, value: u32) -> Written
     requires { ⌜ value < limit 2 0 ⌝ }
-    ensures { λ r. ⌜ Lays (cond there (writing 2 0 0 value) []) r (now (out .entry)) (now (out .exit)) ⌝ }
+    ensures { λ r. ⌜ WritesPart (cond there (writing 2 0 0 value) []) r (now (out .entry)) (now (out .exit)) ⌝ }
 {
     if there {
         return integers::write_u4(out, value);
@@ -68,7 +68,7 @@ pub(crate) fn write_number(out: &mut [u8], there: bool, value: u32) -> Written
 // x and y.
 pub(crate) fn write_point(out: &mut [u8], place: Point) -> Written
     requires { ⌜ point taken .Holds place ⌝ }
-    ensures { λ r. ⌜ Lays (point taken .write place) r (now (out .entry)) (now (out .exit)) ⌝ }
+    ensures { λ r. ⌜ WritesPart (point taken .write place) r (now (out .entry)) (now (out .exit)) ⌝ }
 {
     let x = integers::write_s4(out, place.x);
     let at_y = x.bytes;
@@ -78,7 +78,7 @@ pub(crate) fn write_point(out: &mut [u8], place: Point) -> Written
 // Two sides, one behind the other.
 fn write_two(out: &mut [u8], first: i16, second: i16) -> Written
     requires { ⌜ (taken .s2 .Holds first) × (taken .s2 .Holds second) ⌝ }
-    ensures { λ r. ⌜ Lays (taken .s2 .write first ++ taken .s2 .write second) r (now (out .entry)) (now (out .exit)) ⌝ }
+    ensures { λ r. ⌜ WritesPart (taken .s2 .write first ++ taken .s2 .write second) r (now (out .entry)) (now (out .exit)) ⌝ }
 {
     let start = integers::write_s2(out, first);
     let at = start.bytes;
@@ -88,7 +88,7 @@ fn write_two(out: &mut [u8], first: i16, second: i16) -> Written
 // left, top, right and bottom.
 fn write_four(out: &mut [u8], four: Sides) -> Written
     requires { ⌜ sides taken .Holds four ⌝ }
-    ensures { λ r. ⌜ Lays (sides taken .write four) r (now (out .entry)) (now (out .exit)) ⌝ }
+    ensures { λ r. ⌜ WritesPart (sides taken .write four) r (now (out .entry)) (now (out .exit)) ⌝ }
 {
     let high = write_two(out, four.left, four.top);
     let at_right = high.bytes;
@@ -101,7 +101,7 @@ fn write_four(out: &mut [u8], four: Sides) -> Written
 // The sides, where they are there.
 pub(crate) fn write_sides(out: &mut [u8], there: bool, four: Sides) -> Written
     requires { ⌜ HoldsWhen there (sides taken .Holds) noSides four ⌝ }
-    ensures { λ r. ⌜ Lays (cond there (sides taken .write four) []) r (now (out .entry)) (now (out .exit)) ⌝ }
+    ensures { λ r. ⌜ WritesPart (cond there (sides taken .write four) []) r (now (out .entry)) (now (out .exit)) ⌝ }
 {
     if there {
         return write_four(out, four);

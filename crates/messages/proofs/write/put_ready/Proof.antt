@@ -9,7 +9,7 @@ use lib.ListN.{length}
 use Prim.Native.Nat.{_-_}
 use denote.Ref.{now}
 use Rattle.messages.specs.Answer.{Put}
-use Rattle.messages.specs.Bodies.{readyBy, ready}
+use Rattle.messages.specs.Bodies.{readyBy}
 use Rattle.messages.proofs.Writing.{put-next, Room, room}
 use borrow.Author.Needs.{needs}
 use Rattle.messages.proofs.write.put_ready.Statement.{statement}

@@ -9,7 +9,7 @@ use Rattle.formats.specs.Format.{byte}
 use Rattle.fields.specs.Integers.{taken}
 use mathlib.Core.List.{_++_, append-nil, append-assoc}
 use Rattle.touch.specs.Touch.{point, contact}
-use Rattle.writing.specs.Filling.{Lays}
+use Rattle.writing.specs.Filling.{WritesPart}
 use Rattle.writing.proofs.Filling.{left-by, lays-joined}
 use borrow.Author.Needs.{needs}
 use Rattle.writing.proofs.contact.write_contact.Statement.{statement}
@@ -17,7 +17,7 @@ use Rattle.writing.proofs.contact.write_contact.Tie as tie
 
 -- all but the optional fields
 placed : (c : tie.After-join) → let w = c .before .before .before in let v = w .before .before .before .before in let a = v .before .before .before .args in
-    Lays ((byte .write (a .touch .id) ++ taken .u2 .write (a .touch .present)) ++ (point taken .write (a .touch .place) ++ taken .u4 .write (a .touch .flags)))
+    WritesPart ((byte .write (a .touch .id) ++ taken .u2 .write (a .touch .present)) ++ (point taken .write (a .touch .place) ++ taken .u4 .write (a .touch .flags)))
     (c .join .result) (now (a .out)) (putMid (v .write-lead .result .bytes) (length (v .write-lead .last .0) - v .write-lead .result .bytes) (v .write-lead .last .0) (w .write-place .last .0))
 placed c =
     let w = c .before .before .before in

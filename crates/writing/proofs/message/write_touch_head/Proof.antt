@@ -8,21 +8,21 @@ use lib.ListN.{length}
 use borrow.Rule.Slice.PartMut.{midOf}
 use Rattle.fields.specs.Integers.{taken}
 use Rattle.framing.specs.Format.{bodyHeadFormat}
-use Rattle.writing.specs.Filling.{Lays}
+use Rattle.writing.specs.Filling.{WritesPart}
 use Rattle.writing.proofs.Filling.{left-by, lays-integer, lays-joined, joined-room}
 use borrow.Author.Needs.{needs}
 use Rattle.writing.proofs.message.write_touch_head.Statement.{statement}
 use Rattle.writing.proofs.message.write_touch_head.Tie as tie
 
 time : (c : tie.After-write-u4) → let a = c .before .before .before .args in
-    Lays (taken .u4 .write (a .time .0)) (c .write-u4 .result) (now (a .out)) (c .write-u4 .last .0)
+    WritesPart (taken .u4 .write (a .time .0)) (c .write-u4 .result) (now (a .out)) (c .write-u4 .last .0)
 time c = lays-integer 2 0 _ _ _ _ _ (c .before .before .before .pre) (c .write-u4 .ensures)
 
 abbrev up : tie.After-write-u2 → tie.After-write-u4
 up c = c .before .before .before .before
 
 count : (c : tie.After-write-u2) → let x = up c .write-u4 in let a = up c .before .before .before .args in
-    Lays (taken .u2 .write (a .frames)) (c .write-u2 .result) (midOf (x .result .bytes) (length (x .last .0) - x .result .bytes) (x .last .0)) (c .write-u2 .last .0)
+    WritesPart (taken .u2 .write (a .frames)) (c .write-u2 .result) (midOf (x .result .bytes) (length (x .last .0) - x .result .bytes) (x .last .0)) (c .write-u2 .last .0)
 count c = lays-integer 1 0 _ _ _ _ _ (omega arith) (c .write-u2 .ensures)
 
 write-u4-requires : tie.Need-write-u4-requires

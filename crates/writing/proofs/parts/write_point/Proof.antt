@@ -10,14 +10,14 @@ use mir.ValLaws.{toZ-ofZ}
 use borrow.Rule.Slice.PartMut.{midOf}
 use Rattle.fields.specs.Integers.{taken}
 use Rattle.touch.specs.Touch.{point}
-use Rattle.writing.specs.Filling.{Lays}
+use Rattle.writing.specs.Filling.{WritesPart}
 use Rattle.writing.proofs.Filling.{left-by, lays-integer, lays-joined, joined-room}
 use borrow.Author.Needs.{needs}
 use Rattle.writing.proofs.parts.write_point.Statement.{statement}
 use Rattle.writing.proofs.parts.write_point.Tie as tie
 
 x-fills : (c : tie.After-write-s4) → let a = c .before .before .before .before .args in
-    Lays (taken .s4 .write (a .place .x)) (c .write-s4 .result) (now (a .out)) (c .write-s4 .last .0)
+    WritesPart (taken .s4 .write (a .place .x)) (c .write-s4 .result) (now (a .out)) (c .write-s4 .last .0)
 unfolding point
 x-fills c =
     let s = c .before .before .before .before in
@@ -27,7 +27,7 @@ abbrev up : tie.After-write-s42 → tie.After-write-s4
 up c = c .before .before .before .before .before
 
 y-fills : (c : tie.After-write-s42) → let x = up c .write-s4 in let a = up c .before .before .before .before .args in
-    Lays (taken .s4 .write (a .place .y)) (c .write-s42 .result) (midOf (x .result .bytes) (length (x .last .0) - x .result .bytes) (x .last .0)) (c .write-s42 .last .0)
+    WritesPart (taken .s4 .write (a .place .y)) (c .write-s42 .result) (midOf (x .result .bytes) (length (x .last .0) - x .result .bytes) (x .last .0)) (c .write-s42 .last .0)
 unfolding point
 y-fills c =
     let s = up c .before .before .before .before in

@@ -8,13 +8,13 @@ use mir.Facts.{toZ-ofZ}
 use lib.ListN.{length}
 use borrow.Rule.Slice.PartMut.{midOf}
 use Rattle.fields.specs.Integers.{taken}
-use Rattle.writing.specs.Filling.{Lays}
+use Rattle.writing.specs.Filling.{WritesPart}
 use Rattle.writing.proofs.Filling.{left-by, lays-integer, lays-joined, joined-room}
 use borrow.Author.Needs.{needs}
 use Rattle.writing.proofs.parts.write_two.Statement.{statement}
 use Rattle.writing.proofs.parts.write_two.Tie as tie
 
-one : (c : tie.After-write-s2) → let a = c .before .before .before .args in Lays (taken .s2 .write (a .first)) (c .write-s2 .result) (now (a .out)) (c .write-s2 .last .0)
+one : (c : tie.After-write-s2) → let a = c .before .before .before .args in WritesPart (taken .s2 .write (a .first)) (c .write-s2 .result) (now (a .out)) (c .write-s2 .last .0)
 one c =
     let s = c .before .before .before in
     lays-integer 1 1 _ _ _ _ _ (s .pre .0) (rw (toZ-ofZ (s .fits .first)) at (c .write-s2 .ensures))
@@ -23,7 +23,7 @@ abbrev up : tie.After-write-s22 → tie.After-write-s2
 up c = c .before .before .before .before
 
 two : (c : tie.After-write-s22) → let x = up c .write-s2 in let a = up c .before .before .before .args in
-    Lays (taken .s2 .write (a .second)) (c .write-s22 .result) (midOf (x .result .bytes) (length (x .last .0) - x .result .bytes) (x .last .0)) (c .write-s22 .last .0)
+    WritesPart (taken .s2 .write (a .second)) (c .write-s22 .result) (midOf (x .result .bytes) (length (x .last .0) - x .result .bytes) (x .last .0)) (c .write-s22 .last .0)
 two c =
     let s = up c .before .before .before in
     lays-integer 1 1 _ _ _ _ _ (s .pre .1) (rw (toZ-ofZ (s .fits .second)) at (c .write-s22 .ensures))

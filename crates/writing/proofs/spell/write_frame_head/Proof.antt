@@ -8,14 +8,14 @@ use lib.ListN.{length}
 use borrow.Rule.Slice.PartMut.{midOf}
 use Rattle.fields.specs.Integers.{taken}
 use Rattle.framing.specs.Format.{frameHeadFormat}
-use Rattle.writing.specs.Filling.{Lays}
+use Rattle.writing.specs.Filling.{WritesPart}
 use Rattle.writing.proofs.Filling.{left-by, lays-integer, lays-joined, joined-room}
 use borrow.Author.Needs.{needs}
 use Rattle.writing.proofs.spell.write_frame_head.Statement.{statement}
 use Rattle.writing.proofs.spell.write_frame_head.Tie as tie
 
 count : (c : tie.After-write-u2) → let a = c .before .before .before .args in
-    Lays (taken .u2 .write (a .head .count)) (c .write-u2 .result) (now (a .out)) (c .write-u2 .last .0)
+    WritesPart (taken .u2 .write (a .head .count)) (c .write-u2 .result) (now (a .out)) (c .write-u2 .last .0)
 unfolding frameHeadFormat
 count c = lays-integer 1 0 _ _ _ _ _ (c .before .before .before .pre .0 .0) (c .write-u2 .ensures)
 
@@ -23,7 +23,7 @@ abbrev up : tie.After-write-u8 → tie.After-write-u2
 up c = c .before .before .before .before
 
 offset : (c : tie.After-write-u8) → let x = up c .write-u2 in let a = up c .before .before .before .args in
-    Lays (taken .u8 .write (a .head .offset .0)) (c .write-u8 .result) (midOf (x .result .bytes) (length (x .last .0) - x .result .bytes) (x .last .0)) (c .write-u8 .last .0)
+    WritesPart (taken .u8 .write (a .head .offset .0)) (c .write-u8 .result) (midOf (x .result .bytes) (length (x .last .0) - x .result .bytes) (x .last .0)) (c .write-u8 .last .0)
 unfolding frameHeadFormat
 offset c = lays-integer 3 0 _ _ _ _ _ (up c .before .before .before .pre .1 .0) (c .write-u8 .ensures)
 

@@ -3,7 +3,7 @@
 use Prim.Native.Nat.{_≤_, _+_, _-_}
 use mathlib.Core.List.{_++_}
 use borrow.Rule.Slice.PartMut.{midOf, putMid}
-use Rattle.writing.specs.Filling.{Lays}
+use Rattle.writing.specs.Filling.{WritesPart}
 use native.Mathlib.Omega.{arith}
 use lib.ListN.{length, drop, length-drop}
 use lib.Seq.{drop-drop}
@@ -41,13 +41,13 @@ togo c =
     rw (spelt-more (p .loop .left) (drop (p .loop .from) (a .records .now)) (c .loop-test .taken), drop-drop 21 (p .loop .from) (a .records .now)) at (p .loop .inv .0)
 
 wrote : (c : tie.After-write-record Inv-loop μ-loop) → let p = c .before .before .before .before in
-    Lays (spelling (recordOf (drop (p .loop .from) (p .before .before .before .args .records .now)))) (c .write-record .result) (midOf (p .loop .at) (length (p .loop .out) - p .loop .at) (p .loop .out)) (c .write-record .last .0)
+    WritesPart (spelling (recordOf (drop (p .loop .from) (p .before .before .before .args .records .now)))) (c .write-record .result) (midOf (p .loop .at) (length (p .loop .out) - p .loop .at) (p .loop .out)) (c .write-record .last .0)
 wrote c =
     let p = c .before .before .before .before in
     rw (tail (p .before .before .before .args .records .now) (p .loop .from)) at (c .write-record .ensures)
 
 stopped : (c : tie.Then1 Inv-loop μ-loop) → let w = c .before .before .before .before in let p = w .before .before .before .before in let a = p .before .before .before .args in
-    Lays (spelt (a .count) (a .records .now)) (w .write-record .result) (a .out .now) (putMid (p .loop .at) (length (p .loop .out) - p .loop .at) (p .loop .out) (w .write-record .last .0))
+    WritesPart (spelt (a .count) (a .records .now)) (w .write-record .result) (a .out .now) (putMid (p .loop .at) (length (p .loop .out) - p .loop .at) (p .loop .out) (w .write-record .last .0))
 stopped c =
     let w = c .before .before .before .before in
     partly-stop _ _ (togo (w .before .before .before)) (wrote w) (c .if1 .taken)
@@ -59,7 +59,7 @@ more c =
     partly-more _ _ (togo (w .before .before .before)) (wrote w) (c .before .if1 .left)
 
 ended : (c : tie.After-loop Inv-loop μ-loop) → let p = c .before in let a = p .before .before .before .args in
-    Lays (spelt (a .count) (a .records .now)) (record { refusal = 0; bytes = p .loop .at }) (a .out .now) (p .loop .out)
+    WritesPart (spelt (a .count) (a .records .now)) (record { refusal = 0; bytes = p .loop .at }) (a .out .now) (p .loop .out)
 ended c =
     let p = c .before in
     partly-all (rw (spelt-none (p .loop .left) (drop (p .loop .from) (p .before .before .before .args .records .now)) (c .loop-test .left)) at (p .loop .inv .0))

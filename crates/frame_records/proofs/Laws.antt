@@ -15,7 +15,7 @@ use Rattle.house.specs.declared.Contact.{Contact}
 use Rattle.house.proofs.Round.{length-head, length-contact}
 use Rattle.framing.specs.Frame.{Frame, headOf, contactsBytes, frameBytes, framesBytes}
 use Rattle.touch.specs.Touch.{contact, touchRecord}
-use Rattle.frame_records.specs.Frames.{recordsIn}
+use Rattle.frame_records.specs.Frames.{recordCount}
 
 -- ---- one more
 
@@ -39,12 +39,12 @@ pub frame-is : (f : Frame Contact) → frameBytes touchRecord f ≡ headBytes (h
 unfolding frameBytes
 frame-is f = refl
 
-pub records-cons : (f : Frame Contact) (fs : List (Frame Contact)) → recordsIn (f ∷ fs) ≡ suc (length (f .contacts)) + recordsIn fs
-unfolding recordsIn
+pub records-cons : (f : Frame Contact) (fs : List (Frame Contact)) → recordCount (f ∷ fs) ≡ suc (length (f .contacts)) + recordCount fs
+unfolding recordCount
 records-cons f fs = refl
 
-pub records-none : recordsIn [] ≡ 0
-unfolding recordsIn
+pub records-none : recordCount [] ≡ 0
+unfolding recordCount
 records-none = refl
 
 -- ---- lengths
@@ -67,7 +67,7 @@ unfolding frameBytes
 length-frame f = rw (length-append, length-head (headOf f), length-contacts (f .contacts)) (omega arith)
 
 -- 21 bytes a record
-pub length-frames : (fs : List (Frame Contact)) → length (framesBytes touchRecord fs) ≡ 21 * recordsIn fs
-unfolding framesBytes recordsIn
+pub length-frames : (fs : List (Frame Contact)) → length (framesBytes touchRecord fs) ≡ 21 * recordCount fs
+unfolding framesBytes recordCount
 length-frames [] = refl
 length-frames (f ∷ fs) = rw (length-append, length-frame f, length-frames fs) (omega arith)

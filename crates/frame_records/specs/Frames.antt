@@ -17,9 +17,9 @@ use Rattle.frame_records.specs.declared.FoundFrame.{FoundFrame}
 use Rattle.frame_records.specs.declared.FoundHead.{FoundHead}
 
 -- how many records frames have: each a head and its contacts
-unfoldable pub recordsIn : List (Frame Contact) → ℕ
-recordsIn [] = 0
-recordsIn (f ∷ fs) = suc (length (f .contacts)) + recordsIn fs
+unfoldable pub recordCount : List (Frame Contact) → ℕ
+recordCount [] = 0
+recordCount (f ∷ fs) = suc (length (f .contacts)) + recordCount fs
 
 -- THE CONTRACT OF WRITING A FRAME: of its head and the bytes l from its first contact on. Where its contacts cannot be read nothing is said.
 abbrev pub WritesFrame : Head → List ℕ → Written → List ℕ → List ℕ → Type 0

@@ -12,13 +12,13 @@ use Rattle.formats.specs.Format.{Got, got, bad}
 use Rattle.house.specs.declared.Contact.{Contact}
 use Rattle.framing.specs.Frame.{Frame, framesBytes}
 use Rattle.touch.specs.Touch.{Touch, touchRecord}
-use Rattle.frame_records.specs.Frames.{recordsIn}
+use Rattle.frame_records.specs.Frames.{recordCount}
 use Rattle.frame_records.proofs.Laws.{length-frames}
 use Rattle.reading.specs.Plain.{plainly, draftOf, timeOf, refusal, answered, ReadsPlainly}
 use Rattle.reading.specs.declared.PlainAnswer.{PlainAnswer}
 
 -- THE COUNT IS OF WHAT IS WRITTEN: the records that are counted are those whose bytes are
-pub counted : (fs : List (Frame Contact)) → length (framesBytes touchRecord fs) / 21 ≡ recordsIn fs
+pub counted : (fs : List (Frame Contact)) → length (framesBytes touchRecord fs) / 21 ≡ recordCount fs
 counted fs = let n = length-frames fs in omega arith
 
 module _ (l : List ℕ) (a : PlainAnswer) (before after : List ℕ) where
@@ -37,6 +37,6 @@ module _ (l : List ℕ) (a : PlainAnswer) (before after : List ℕ) where
     pub plain-none : length before < length (framesBytes touchRecord (m .frames)) → a ≡ refusal noRoom → after ≡ before → ReadsPlainly l a before after
     plain-none k ea eo = met (got m []) (refuse noRoom) h (given-none (framesBytes touchRecord (m .frames)) (length before) k) ea eo
 
-    pub plain-read : length (framesBytes touchRecord (m .frames)) ≤ length before → a ≡ record { refusal = none; time = m .time; records = recordsIn (m .frames) }
+    pub plain-read : length (framesBytes touchRecord (m .frames)) ≤ length before → a ≡ record { refusal = none; time = m .time; records = recordCount (m .frames) }
         → after ≡ laid before (framesBytes touchRecord (m .frames)) → ReadsPlainly l a before after
     plain-read k ea eo = met (got m []) (bytes (framesBytes touchRecord (m .frames))) h (given-room (framesBytes touchRecord (m .frames)) (length before) k) (rw (counted (m .frames)) ea) eo

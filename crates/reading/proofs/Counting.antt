@@ -11,7 +11,7 @@ use Rattle.house.specs.declared.Contact.{Contact}
 use Rattle.framing.specs.Frame.{Frame}
 use Rattle.touch.proofs.Passes.{frameBy}
 use Rattle.house.specs.declared.Head.{Head}
-use Rattle.frame_records.specs.Frames.{recordsIn, FindsFrame}
+use Rattle.frame_records.specs.Frames.{recordCount, FindsFrame}
 use Rattle.frame_records.specs.declared.FoundFrame.{FoundFrame}
 use Rattle.frame_records.proofs.Laws.{records-none, records-cons}
 use Rattle.frame_records.proofs.Finding.{found-at, turn}
@@ -21,7 +21,7 @@ use Rattle.reading.specs.Passes.{frames}
 pub record Counting (l : List ℕ) (whole : List (Frame Contact)) (t : List ℕ) (records at left : ℕ) : Type 0 where
   pub more : List (Frame Contact)
   pub read : frames left .read (drop at l) ≡ got more t
-  pub same : records + recordsIn more ≡ recordsIn whole
+  pub same : records + recordCount more ≡ recordCount whole
 
 module _ (l : List ℕ) (whole : List (Frame Contact)) (t : List ℕ) where
   pub counting-first : (n : ℕ) → frames n .read l ≡ got whole t → Counting l whole t 0 0 n
@@ -33,12 +33,12 @@ module _ (l : List ℕ) (whole : List (Frame Contact)) (t : List ℕ) where
     counting-next r k here =
         let x = turn l at r (found-at l at r here) t left (h .more) k (h .read) in
         let n : r .head .count ≡ length (x .frame .contacts) = ap (λ (g : Head). g .count) (x .head) in
-        let e : recordsIn (h .more) ≡ suc (length (x .frame .contacts)) + recordsIn (x .others) = ap recordsIn (x .all) ∙ records-cons (x .frame) (x .others) in
+        let e : recordCount (h .more) ≡ suc (length (x .frame .contacts)) + recordCount (x .others) = ap recordCount (x .all) ∙ records-cons (x .frame) (x .others) in
         record { more = x .others; read = x .after; same = omega (arith, h .same) }
 
-    pub counting-done : left ≤ 0 → records ≡ recordsIn whole
+    pub counting-done : left ≤ 0 → records ≡ recordCount whole
     counting-done k =
         let p : got [] (drop at l) ≡ got (h .more) t = sym (series-end frameBy _ left (drop at l) k) ∙ h .read in
         let e : [] ≡ h .more = cc in
-        let z : recordsIn (h .more) ≡ 0 = sym (ap recordsIn e) ∙ records-none in
+        let z : recordCount (h .more) ≡ 0 = sym (ap recordCount e) ∙ records-none in
         omega (arith, h .same)

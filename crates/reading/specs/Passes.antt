@@ -14,7 +14,7 @@ use Rattle.touch.specs.Touch.{Touch, frame, touchRecord}
 use Rattle.framing.specs.declared.BodyHead.{BodyHead}
 use Rattle.touch.specs.declared.CheckedBody.{CheckedBody}
 use Rattle.touch.specs.declared.CheckedBody.the-variants as CheckedBody
-use Rattle.frame_records.specs.Frames.{recordsIn}
+use Rattle.frame_records.specs.Frames.{recordCount}
 use Rattle.reading.specs.Plain.{plainly}
 
 -- n frames, whose offsets are not judged
@@ -34,8 +34,8 @@ Judges l (CheckedBody.Body h at) = Reads l h at
 Judges l (CheckedBody.Refused e) = plainly l ≡ bad e
 
 -- r is how many records n frames have, if they can be read
-pub record Counts (n : ℕ) (l : List ℕ) (r : ℕ) : Type 0 where
-  pub same : (fs : List (Frame Contact)) (t : List ℕ) → frames n .read l ≡ got fs t → r ≡ recordsIn fs
+pub record CountsRecords (n : ℕ) (l : List ℕ) (r : ℕ) : Type 0 where
+  pub same : (fs : List (Frame Contact)) (t : List ℕ) → frames n .read l ≡ got fs t → r ≡ recordCount fs
   -- whatever is read: a head, and fewer than 65536 contacts
   pub most : r ≤ 65536 * n
 

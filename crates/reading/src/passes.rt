@@ -1,10 +1,10 @@
 // The two passes over the frames of a message that was judged.
 ghost use lib.ListN.{length};
-ghost use Rattle.reading.specs.Passes.{Counts, Roomy, WritesFrames};
+ghost use Rattle.reading.specs.Passes.{CountsRecords, Roomy, WritesFrames};
 
 // How many records n frames have.
 pub(crate) fn count_records(frames: &[u8], n: u8) -> usize
-    ensures { λ r. ⌜ Counts n (now (frames .entry)) r ⌝ }
+    ensures { λ r. ⌜ CountsRecords n (now (frames .entry)) r ⌝ }
 {
     let mut records: usize = 0;
     let mut at: usize = 0;

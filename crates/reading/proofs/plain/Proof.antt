@@ -12,7 +12,7 @@ use Rattle.formats.proofs.Steps.{tail}
 use Rattle.framing.specs.Frame.{framesBytes}
 use Rattle.touch.specs.Touch.{touchRecord}
 use Rattle.framing.specs.declared.BodyHead.{BodyHead}
-use Rattle.frame_records.specs.Frames.{recordsIn}
+use Rattle.frame_records.specs.Frames.{recordCount}
 use Rattle.frame_records.proofs.Laws.{length-frames}
 use Rattle.reading.specs.Passes.{frames, Reads}
 use Rattle.reading.proofs.Answering.{plain-refused, plain-none, plain-read}
@@ -37,7 +37,7 @@ frames-read : (c : tie.After-known-told) → frames (head c .frames) .read (take
 frames-read c = rw (tail (lent c) (at c)) (accepted c .frames)
 
 -- what is counted is what is written
-counted : (c : tie.After-count-records) → c .count-records .result ≡ recordsIn (accepted (c .before .before) .message .frames)
+counted : (c : tie.After-count-records) → c .count-records .result ≡ recordCount (accepted (c .before .before) .message .frames)
 counted c = c .count-records .ensures .same (accepted (c .before .before) .message .frames) [] (frames-read (c .before .before))
 
 room : (c : tie.After-count-records) → length (framesBytes touchRecord (accepted (c .before .before) .message .frames)) ≡ 21 * c .count-records .result

@@ -1,3 +1,4 @@
 pub mod Laws
 pub mod Order
 pub mod Steps
+pub mod Least

@@ -5,3 +5,4 @@ pub mod Order
 pub mod Reading
 pub mod Tail
 pub mod Begun
+pub mod Least

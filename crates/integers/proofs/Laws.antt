@@ -110,6 +110,14 @@ decoded-inside t q l s m n e = go (decoded-cases t q l)
     go (whole k d) = let en : countOf t q (getD l 0 0) + 1 ≡ n = cc in omega arith
     go (short k d) = never truncated s m n (sym d ∙ e)
 
+-- and takes a byte at least
+pub decoded-one : (t q : ℕ) (l : List ℕ) (s m n : ℕ) → decoded t q l ≡ value s m n → 1 ≤ n
+decoded-one t q l s m n e = go (decoded-cases t q l)
+  where
+    go : Cases t q l → 1 ≤ n
+    go (short k d) = never _ s m n (sym d ∙ e)
+    go (whole k d) = let en : countOf t q (getD l 0 0) + 1 ≡ n = cc in omega arith
+
 -- what follows changes nothing, but where the list ended inside the integer
 pub decoded-more : (t q : ℕ) (l more : List ℕ) (x : Reading) → decoded t q l ≡ x → (x ≡ refused truncated → ⊥) → decoded t q (l ++ more) ≡ x
 decoded-more t q l more x e other = go l (decoded-cases t q l) e
@@ -227,6 +235,10 @@ only-form-refused t q l e h = go (decoded t q l) refl h
 pub reading-inside : (k g : ℕ) (l : List ℕ) (s m n : ℕ) → reading k g l ≡ value s m n → n ≤ length l
 unfolding decodedOnly
 reading-inside k g l s m n e = decoded-inside (tops k g) (signs g) l s m n (only-value (tops k g) (decoded (tops k g) (signs g) l) s m n e .same)
+
+pub reading-one : (k g : ℕ) (l : List ℕ) (s m n : ℕ) → reading k g l ≡ value s m n → 1 ≤ n
+unfolding decodedOnly
+reading-one k g l s m n e = decoded-one (tops k g) (signs g) l s m n (only-value (tops k g) (decoded (tops k g) (signs g) l) s m n e .same)
 
 pub reading-more : (k g : ℕ) (l more : List ℕ) (x : Reading) → reading k g l ≡ x → (x ≡ refused truncated → ⊥) → reading k g (l ++ more) ≡ x
 reading-more k g = only-form-more (tops k g) (signs g)

@@ -4,3 +4,4 @@ pub mod Reading
 pub mod Passes
 pub mod Ranges
 pub mod Unique
+pub mod Least

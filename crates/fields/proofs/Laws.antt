@@ -2,12 +2,12 @@
 -- Assumes nothing.
 use Prim.Native.Nat.{ℕ, zero, suc, _+_, _≤_, _<_}
 use mathlib.Core.Logic.{_↔_}
-use mathlib.Core.Path.{_≡_, refl, sym, ap, _∙_}
+use mathlib.Core.Path.{_≡_, refl, sym, _∙_}
 use mathlib.Core.List.{List, _++_}
 use native.Mathlib.Omega.{arith}
 use lib.Dec.{lit<, lit≤}
 use lib.IntN.{ℤ, pos, negsuc, natAbs}
-use lib.ListN.{length, take, drop, take-append-drop, length-append}
+use lib.ListN.{length, take, drop, take-append-drop, length-drop}
 use lib.Seq.{drop-append-seam}
 use Rattle.digits.specs.Digits.{Bytes}
 use Rattle.digits.proofs.Laws.{bytes-drop}
@@ -15,7 +15,7 @@ use Rattle.formats.specs.Format.{got, Format}
 use Rattle.formats.proofs.Laws.{Law, Back, Sound, Short, Exact, never}
 use Rattle.integers.specs.Integer.{Reading, value, refused, reading, writing, limit, signs}
 use Rattle.integers.specs.Answer.{minus, signedValue}
-use Rattle.integers.proofs.Laws.{length-and-value, writing-shorter}
+use Rattle.integers.proofs.Laws.{length-and-value, reading-decoded, reading-inside, writing-shorter}
 use Rattle.integers.proofs.Signed.{minus-small, signed-again}
 use Rattle.fields.specs.Integers.{Shape, unsigned, signed, gotBy, integer, Integers, integersBy, strict, takenReading, taken}
 
@@ -166,7 +166,7 @@ strict-reads k g hk h =
     record {
       back = v .back;
       fit = λ l s m n hl e. let r = v .range l s m n hl e in (r .sign, r .plain, r .size);
-      short = λ l s m n hl e. rw (← v .exact l s m n hl e) (omega (arith, length-append (take n l) (drop n l), ap length (take-append-drop n l)));
+      short = λ l s m n hl e. omega (arith, v .shortest l s m n hl (reading-decoded k g l s m n e), reading-inside k g l s m n e, length-drop n l);
     }
 
 pub strict-law : IntegersLaw (Unit {0}) strict

@@ -222,19 +222,27 @@ only-refused t s m n e h = go (eqb (fewest furthest t m + 1) n) (leb s m) h
     go false y h = cc
 
 -- so an integer is refused with 5 or 6
-pub only-form-refused : (t q : ℕ) (l : List ℕ) (e : ℕ) → decodedOnly t q l ≡ refused e → (truncated ≤ e) × (e ≤ notShortest)
+pub data Fault (e : ℕ) : Type 0 where
+  cut : e ≡ truncated → Fault e
+  form : e ≡ notShortest → Fault e
+
+pub only-form-refused : (t q : ℕ) (l : List ℕ) (e : ℕ) → decodedOnly t q l ≡ refused e → Fault e
 unfolding decodedOnly only
 only-form-refused t q l e h = go (decoded t q l) refl h
   where
-    go : (x : Reading) → decoded t q l ≡ x → only t x ≡ refused e → (truncated ≤ e) × (e ≤ notShortest)
-    go (value s m n) d h = omega (arith, only-refused t s m n e h)
-    go (refused y) d h = let same : y ≡ e = cc in omega (arith, decoded-refused t q l y d)
+    go : (x : Reading) → decoded t q l ≡ x → only t x ≡ refused e → Fault e
+    go (value s m n) d h = form (only-refused t s m n e h)
+    go (refused y) d h = let same : y ≡ e = cc in cut (sym same ∙ decoded-refused t q l y d)
 
 -- ---- by count bits and sign bits
 
-pub reading-inside : (k g : ℕ) (l : List ℕ) (s m n : ℕ) → reading k g l ≡ value s m n → n ≤ length l
+-- a value that is read is decoded
+pub reading-decoded : (k g : ℕ) (l : List ℕ) (s m n : ℕ) → reading k g l ≡ value s m n → decoded (tops k g) (signs g) l ≡ value s m n
 unfolding decodedOnly
-reading-inside k g l s m n e = decoded-inside (tops k g) (signs g) l s m n (only-value (tops k g) (decoded (tops k g) (signs g) l) s m n e .same)
+reading-decoded k g l s m n e = only-value (tops k g) (decoded (tops k g) (signs g) l) s m n e .same
+
+pub reading-inside : (k g : ℕ) (l : List ℕ) (s m n : ℕ) → reading k g l ≡ value s m n → n ≤ length l
+reading-inside k g l s m n e = decoded-inside (tops k g) (signs g) l s m n (reading-decoded k g l s m n e)
 
 pub reading-one : (k g : ℕ) (l : List ℕ) (s m n : ℕ) → reading k g l ≡ value s m n → 1 ≤ n
 unfolding decodedOnly
@@ -274,12 +282,22 @@ reading-ranged k g l s m n h hl e =
     let b = decoded-bounded k g l s m n h hl (o .same) in
     record { sign = b .sign; plain = o .plain; size = b .size; len = b .len }
 
+-- what is decoded takes no fewer bytes than are written for its value
+decoded-longer : (k g : ℕ) (l : List ℕ) (s m n : ℕ) → Bytes l → decoded (tops k g) (signs g) l ≡ value s m n → length (writing k g s m) ≤ n
+decoded-longer k g l s m n hl e =
+    let t = tops k g in
+    let d = decoded-bytes t (signs g) (tops-pos k g) (signs-pos g) l s m n hl e in
+    let c = fewest-least furthest t m (countOf t (signs g) (getD l 0 0)) (d .small) in
+    omega (arith, c, d .count, length-formed t (signs g) (fewest furthest t m) s m)
+
 -- THE LAW OF LENGTH AND VALUE: what is written is read back with its length, whatever follows; a reading accepts only what is written for
--- the value that it gives; and that value is in the kind's range
+-- the value that it gives, and that value is in the kind's range; and no bytes that decode as a value, at any length, are fewer than those
+-- that are written for it
 pub record LengthAndValue (k g : ℕ) : Type 0 where
   pub back : (s m : ℕ) (l : List ℕ) → s < signs g → s ≤ m → m < limit k g → reading k g (writing k g s m ++ l) ≡ value s m (length (writing k g s m))
   pub exact : (l : List ℕ) (s m n : ℕ) → Bytes l → reading k g l ≡ value s m n → take n l ≡ writing k g s m
   pub range : (l : List ℕ) (s m n : ℕ) → Bytes l → reading k g l ≡ value s m n → Ranged k g s m n
+  pub shortest : (l : List ℕ) (s m n : ℕ) → Bytes l → decoded (tops k g) (signs g) l ≡ value s m n → length (writing k g s m) ≤ n
 
 pub length-and-value : (k g : ℕ) → k ≤ 3 → k + g ≤ 8 → LengthAndValue k g
 length-and-value k g hk h =
@@ -287,6 +305,7 @@ length-and-value k g hk h =
       back = λ s m l hs hp hm. only-form-written (tops k g) (signs g) s m l hs hp (held k g m hk h hm .long);
       exact = λ l s m n hl e. only-form-accepted (tops k g) (signs g) (tops-pos k g) (signs-pos g) l s m n hl e .bytes;
       range = λ l s m n hl e. reading-ranged k g l s m n h hl e;
+      shortest = decoded-longer k g;
     }
 
 -- ---- what is written

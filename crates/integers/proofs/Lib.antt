@@ -4,5 +4,6 @@ pub mod Fill
 pub mod Laws
 pub mod Signed
 pub mod Taken
+pub mod Table
 pub mod ProvedSet
 pub mod Unique

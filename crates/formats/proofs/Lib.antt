@@ -2,3 +2,4 @@ pub mod Laws
 pub mod Order
 pub mod Steps
 pub mod Least
+pub mod Refusing

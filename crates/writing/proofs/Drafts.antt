@@ -24,6 +24,7 @@ use Rattle.writing.specs.Records.{framesIn}
 use Rattle.writing.specs.TouchDraft.{messageOf, framesDraft, touchDraft}
 use Rattle.writing.specs.Filling.{WritesPart}
 use Rattle.writing.specs.Spelling.{Spelt, bodyOf, counted}
+use Rattle.writing.proofs.Judged.{frames-refused}
 use Rattle.writing.proofs.Filling.{Room, room, lays-done, lays-count, lays-refusal}
 use Rattle.writing.proofs.Spelt.{spelling-of}
 
@@ -39,7 +40,7 @@ module _ (time : Milliseconds) (l : List ℕ) (early : time .0 < limit 2 0) wher
   draft-bad e h = go (framesIn l) refl h
     where
       go : (x : Got (List (Frame Contact))) → framesIn l ≡ x → bad e ≡ counted x → touchDraft time l ≡ refuse e
-      go (bad y) w h = let z : y ≡ e = cc in rw (lt-ltb _ _ early, w, z)
+      go (bad y) w h = let z : y ≡ e = cc in rw (lt-ltb _ _ early, w) (ap refuse (sym (frames-refused l y w) ∙ z))
       go (got fs t) w h = never e (length fs) [] h
 
   -- frames, as many as were counted

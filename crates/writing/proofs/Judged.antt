@@ -12,6 +12,7 @@ use Rattle.paper.specs.Refusals.{badRecord}
 use Rattle.formats.specs.Format.{Got, got, bad, andThen, readSeries}
 use Rattle.formats.specs.Answer.{skipped}
 use Rattle.formats.proofs.Laws.{never, more-got}
+use Rattle.formats.proofs.Refusing.{Tame, Tamed, and-then, by-test, done-tame, field-tame, series-tame}
 use Rattle.formats.proofs.Steps.{skipped-made}
 use Rattle.house.specs.Layout.{kindOf, headIn, contactOf, recordOf, head, touched}
 use Rattle.house.specs.WellFormed.{wellFormed}
@@ -19,7 +20,7 @@ use Rattle.house.specs.declared.Head.{Head}
 use Rattle.house.specs.declared.Contact.{Contact}
 use Rattle.house.proofs.WellFormed as well
 use Rattle.house.proofs.Front.{Front, front, record-head, record-contact, well-short}
-use Rattle.framing.specs.Frame.{Frame}
+use Rattle.framing.specs.Frame.{Frame, headOf}
 use Rattle.writing.specs.Records.{stands, headRecord, contactRecord, frameRecords, readAll, framesIn}
 use Rattle.writing.specs.Spelling.{kindIn, contactsAfter, counted}
 use Rattle.writing.proofs.Records.{passed, stood}
@@ -121,6 +122,40 @@ pub frames-more : (l : List ℕ) (f : Frame Contact) (t : List ℕ) → 0 < leng
 unfolding framesIn readAll
 frames-more [] f t h w = absurd (omega (arith, h))
 frames-more (x ∷ l) f t h w = rw (w, all-bound (length l) (length t) t (omega (arith, frame-shorter (x ∷ l) f t w)) (omega arith))
+
+-- what is not well formed is refused with 14 alone
+abbrev Fourteen : ℕ → Type 0
+Fourteen e = e ≡ badRecord
+
+head-tame : Tamed Fourteen headRecord
+head-tame = record { tame = λ l. by-test Fourteen (stands head l) _ _ tt refl }
+
+contact-tame : Tamed Fourteen contactRecord
+contact-tame = record { tame = λ l. by-test Fourteen (stands touched l) _ _ tt refl }
+
+frame-tame : Tamed Fourteen frameRecords
+unfolding frameRecords
+frame-tame =
+    field-tame Fourteen headRecord headOf _ head-tame λ h.
+    field-tame Fourteen _ (λ f. f .contacts) _ (series-tame Fourteen (λ b. contactRecord) false (h .count) contact-tame contact-tame) λ cs.
+    done-tame Fourteen _
+
+all-tame : (n : ℕ) (l : List ℕ) → Tame Fourteen (readAll (frameRecords .read) n l)
+unfolding readAll
+all-tame zero [] = tt
+all-tame zero (x ∷ l) = refl
+all-tame (suc n) [] = tt
+all-tame (suc n) (x ∷ l) =
+    and-then Fourteen (frameRecords .read (x ∷ l)) _ (frame-tame .tame (x ∷ l))
+    (λ a t. and-then Fourteen (readAll (frameRecords .read) n t) _ (all-tame n t) (λ more u. tt))
+
+pub frames-refused : (l : List ℕ) (e : ℕ) → framesIn l ≡ bad e → e ≡ badRecord
+unfolding framesIn
+frames-refused l e h = go (framesIn l) h (all-tame (length l) l)
+  where
+    go : (x : Got (List (Frame Contact))) → x ≡ bad e → Tame Fourteen x → e ≡ badRecord
+    go (got fs t) h k = never e fs t (sym h)
+    go (bad y) h k = let z : y ≡ e = cc in sym z ∙ k
 
 -- ---- the count
 

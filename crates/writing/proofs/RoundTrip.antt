@@ -9,7 +9,7 @@ use native.Mathlib.Omega.{arith}
 use lib.Dec.{leb, ltb, lit<}
 use lib.ListN.{length}
 use borrow.Author.Tests.{lt-ltb, le-leb, leb-true, ltb-true}
-use Rattle.paper.specs.Refusals.{badRange, badCount, tooLong}
+use Rattle.paper.specs.Refusals.{badRange, badRecord, badCount, tooLong}
 use Rattle.paper.specs.declared.Milliseconds.{Milliseconds}
 use Rattle.digits.specs.Digits.{Bytes}
 use Rattle.slices.specs.Writing.{Draft, bytes, refuse}
@@ -95,7 +95,7 @@ written time records s h =
     go (framesIn records) refl (ltb-true _ _ (p .0)) (p .1)
   where
     go : (x : Got (List (Frame Contact))) → framesIn records ≡ x → time .0 < limit 2 0 → recordsDraft time x ≡ bytes s → Written time records s
-    go (bad e) w k h = refused e s h
+    go (bad e) w k h = refused badRecord s h
     go (got fs t) w k h =
         let p = passed (leb (length fs) mostFrames) _ badCount s h in
         let q = passed (leb (length (messageOf time fs)) mostBytes) _ tooLong s (p .1) in

@@ -5,7 +5,7 @@ use mathlib.Core.Bool.{false, cond}
 use mathlib.Core.List.{List}
 use lib.Dec.{ltb, leb}
 use lib.ListN.{length}
-use Rattle.paper.specs.Refusals.{badRange, badCount, tooLong}
+use Rattle.paper.specs.Refusals.{badRange, badRecord, badCount, tooLong}
 use Rattle.paper.specs.declared.Milliseconds.{Milliseconds}
 use Rattle.slices.specs.Writing.{Draft, bytes, refuse}
 use Rattle.formats.specs.Format.{Got, got, bad}
@@ -33,7 +33,7 @@ framesDraft time fs =
 -- 14, over all records
 abbrev pub recordsDraft : Milliseconds → Got (List (Frame Contact)) → Draft
 recordsDraft time (got fs t) = framesDraft time fs
-recordsDraft time (bad e) = refuse e
+recordsDraft time (bad e) = refuse badRecord
 
 -- 10, for a time that U4 does not hold; 13 is every writer's last check
 unfoldable pub touchDraft : Milliseconds → List ℕ → Draft

@@ -1,101 +1,187 @@
--- DEMAND 1: "The receiver, the plain reading and the writers take every input, end, and refuse bad ones by a number of document 01. A refusal
--- changes no contact, no setting and not one byte of the lent output." That each call takes every input and ends is what the checker accepts
--- of a function with no `requires`; what a refusal is and leaves is here, of any outcome that the calls' contracts allow.
+-- Demand 1: of each call, which numbers its draft can refuse with, and that a refusal leaves everything as it was.
 -- Assumes nothing.
-use Prim.Native.Nat.{ℕ, _≤_}
+use Prim.Native.Nat.{ℕ}
 use mathlib.Core.Path.{_≡_, refl, sym, ap, _∙_}
 use mathlib.Core.Bool.{Bool, true, false, cond}
-use mathlib.Core.List.{List, [], _∷_}
+use mathlib.Core.List.{List, [], _∷_, map}
 use native.Mathlib.Omega.{arith}
-use lib.Dec.{leb}
+use lib.Dec.{leb, ltb, eqb}
+use lib.IntN.{natAbs}
 use lib.ListN.{length}
+use borrow.Author.Tests.{eqb-true}
 use Rattle.paper.specs.Refusals.{none, noRoom}
-use Rattle.slices.specs.Writing.{Draft, bytes, refuse, given, answered, left, Writes}
+use Rattle.paper.specs.declared.Milliseconds.{Milliseconds}
+use Rattle.slices.specs.Writing.{Draft, bytes, refuse, given, answered, left}
 use Rattle.slices.specs.declared.Written.{Written}
 use Rattle.formats.specs.Format.{Got, got, bad}
-use Rattle.fields.specs.Integers.{taken}
-use Rattle.messages.specs.Header.{headed, readMessage}
-use Rattle.messages.specs.Header as event
-use Rattle.framing.specs.Frame.{framesBytes}
-use Rattle.touch.specs.Touch.{Touch, touch, touchRecord}
-use Rattle.reading.specs.Plain.{plainly, draftOf, timeOf, ReadsPlainly}
-use Rattle.reading.specs.Plain as plain
+use Rattle.formats.proofs.Refusing.{Tame}
+use Rattle.integers.specs.Integer.{limit, draft}
+use Rattle.integers.specs.Answer.{minus}
+use Rattle.house.specs.WellFormed.{all}
+use Rattle.house.specs.declared.Contact.{Contact}
+use Rattle.house.proofs.WellFormed.{all-split}
+use Rattle.messages.specs.Header.{oneOf, mostBytes}
+use Rattle.messages.specs.Bodies.{versionListed, flagsListed, serverReadyDraft, clientReadyDraft, suspendDraft, resumeDraft, dismissDraft}
+use Rattle.messages.specs.declared.Ready.{Ready}
+use Rattle.framing.specs.Frame.{Frame}
+use Rattle.touch.specs.Limits.{mostFrames}
+use Rattle.touch.specs.Touch.{Touch}
+use Rattle.reading.specs.Plain.{plainly, draftOf, timeOf, ReadsPlainly, refusal as plainRefusal, answered as plainAnswered}
 use Rattle.reading.specs.declared.PlainAnswer.{PlainAnswer}
-use Rattle.receiver.specs.Receive.{Receives}
-use Rattle.receiver.specs.History.{Unchanged}
+use Rattle.writing.specs.Records.{framesIn}
+use Rattle.writing.specs.TouchDraft.{messageOf, framesDraft, recordsDraft, touchDraft}
+use Rattle.receiver.specs.Receive.{Effect, judged, effect, answerOf, receiverAfter, answerAfter, Receives, draftOf as effectDraft, refusal as receiverRefusal}
 use Rattle.receiver.specs.declared.Receiver.{Receiver}
 use Rattle.receiver.specs.declared.Answer.{Answer}
-use Rattle.receiver.proofs.Refusing.{Tame, and-then, whole-tame, touch-tame, headed-tame}
-use Rattle.receiver.proofs.Histories.{a-refusal-changes-nothing}
+use Rattle.receiver.proofs.Refusing.{readNumbers, Listed, message-tame, effect-tame}
+use Rattle.demands.specs.Refusing.{integerNumbers, touchNumbers, readyNumbers, roomNumbers, plainNumbers, receiverNumbers, Unwritten, Unread, Unchanged, Refuses, EveryRefusal}
 
--- a writer's refusal: 13, or the one of its own draft; no byte is counted, and the output is as it was
-pub record Unwritten (d : Draft) (w : Written) (before after : List ℕ) : Type 0 where
-  pub output : after ≡ before
-  pub bytes : w .bytes ≡ 0
-  pub number : given (length before) d ≡ refuse (w .refusal)
+-- ---- the writers
 
--- the plain reading's refusal: a number of 1 to 13, every other field 0, and the output as it was
-pub record Unread (a : PlainAnswer) (before after : List ℕ) : Type 0 where
-  pub output : after ≡ before
-  pub others : a ≡ plain.refusal (a .refusal)
-  pub low : 1 ≤ a .refusal
-  pub high : a .refusal ≤ 13
+-- a draft's refusal is one of these
+abbrev Within : List ℕ → Draft → Type 0
+Within numbers (bytes s) = Unit {0}
+Within numbers (refuse e) = oneOf numbers e ≡ true
 
-pub a-writer's-refusal-changes-nothing : (d : Draft) (w : Written) (before after : List ℕ) → Writes d w before after → (w .refusal ≡ none → ⊥) → Unwritten d w before after
-a-writer's-refusal-changes-nothing d w before after h k = go (given (length before) d) refl
+module _ (numbers : List ℕ) where
+  by-test : (b : Bool) (d e : Draft) → Within numbers d → Within numbers e → Within numbers (cond b d e)
+  by-test true d e h k = h
+  by-test false d e h k = k
+
+  -- room asked, 13 is among them
+  given-within : (d : Draft) (room : ℕ) → oneOf numbers noRoom ≡ true → Within numbers d → Within numbers (given room d)
+  unfolding given
+  given-within (bytes s) room h k = by-test (leb (length s) room) (bytes s) (refuse noRoom) tt h
+  given-within (refuse e) room h k = k
+
+  a-writer's-refusal-changes-nothing : (d : Draft) → oneOf numbers noRoom ≡ true → Within numbers d → Refuses numbers d
+  a-writer's-refusal-changes-nothing d h k w before after c u = go (given (length before) d) refl (given-within d (length before) h k)
+    where
+      go : (x : Draft) → given (length before) d ≡ x → Within numbers x → Unwritten numbers w before after
+      go (bytes s) e i = absurd (u (ap (λ (v : Written). v .refusal) (c .answer ∙ ap answered e)))
+      go (refuse n) e i =
+          let a = c .answer ∙ ap answered e in
+          let m : w .refusal ≡ n = ap (λ (v : Written). v .refusal) a in
+          record { number = rw m i; others = ap (λ (v : Written). v .bytes) a; output = c .output ∙ ap (left before) e }
+
+integer-refuses : (k g s m : ℕ) → Refuses integerNumbers (draft k g s m)
+unfolding draft oneOf
+integer-refuses k g s m = a-writer's-refusal-changes-nothing integerNumbers (draft k g s m) refl (by-test integerNumbers (ltb m (limit k g)) _ _ tt refl)
+
+-- bytes are refused for lack of room alone
+bytes-refuse : (s : List ℕ) → Refuses roomNumbers (bytes s)
+unfolding oneOf
+bytes-refuse s = a-writer's-refusal-changes-nothing roomNumbers (bytes s) refl tt
+
+server-ready-refuses : (version : ℕ) → Refuses readyNumbers (serverReadyDraft version)
+unfolding serverReadyDraft oneOf
+server-ready-refuses version = a-writer's-refusal-changes-nothing readyNumbers (serverReadyDraft version) refl (by-test readyNumbers (versionListed version) _ _ tt refl)
+
+client-ready-refuses : (settings : Ready) → Refuses readyNumbers (clientReadyDraft settings)
+unfolding clientReadyDraft oneOf
+client-ready-refuses r =
+    a-writer's-refusal-changes-nothing readyNumbers (clientReadyDraft r) refl
+    (by-test readyNumbers (flagsListed (r .flags)) _ _ (by-test readyNumbers (versionListed (r .version)) _ _ tt refl) refl)
+
+touch-refuses : (time : Milliseconds) (records : List ℕ) → Refuses touchNumbers (touchDraft time records)
+unfolding touchDraft framesDraft oneOf
+touch-refuses time records =
+    a-writer's-refusal-changes-nothing touchNumbers (touchDraft time records) refl
+    (by-test touchNumbers (ltb (time .0) (limit 2 0)) _ _ (by (framesIn records)) refl)
   where
-    go : (x : Draft) → given (length before) d ≡ x → Unwritten d w before after
-    go (bytes s) e = absurd (k (ap (λ (v : Written). v .refusal) (h .answer ∙ ap answered e)))
-    go (refuse n) e =
-        let a = h .answer ∙ ap answered e in
-        let m : w .refusal ≡ n = ap (λ (v : Written). v .refusal) a in
-        record {
-          output = h .output ∙ ap (left before) e;
-          bytes = ap (λ (v : Written). v .bytes) a;
-          number = e ∙ ap refuse (sym m);
-        }
+    by : (x : Got (List (Frame Contact))) → Within touchNumbers (recordsDraft time x)
+    by (bad e) = refl
+    by (got fs t) =
+        by-test touchNumbers (leb (length fs) mostFrames) _ _
+        (by-test touchNumbers (leb (length (messageOf time fs)) mostBytes) _ _ tt refl) refl
 
--- a message that is not read is refused with one of 1 to 12
-plainly-tame : (l : List ℕ) → Tame (plainly l)
-unfolding readMessage
-plainly-tame l = and-then (headed (event.touch ∷ []) l) _ (headed-tame _ l) (λ x b. whole-tame (touch taken false) (touch-tame false) b)
+suspend-refuses : Refuses roomNumbers suspendDraft
+unfolding suspendDraft
+suspend-refuses = bytes-refuse _
 
--- room asked, a refusal is one of 1 to 13
-given-numbered : (room : ℕ) (x : Got Touch) → Tame x → (n : ℕ) → given room (draftOf x) ≡ refuse n → (1 ≤ n) × (n ≤ 13)
-unfolding given
-given-numbered room (bad m) h n e = let z : m ≡ n = cc in (omega (arith, h .low), omega (arith, h .high))
-given-numbered room (got m t) h n e = go (leb (length (framesBytes touchRecord (m .frames))) room) e
+resume-refuses : Refuses roomNumbers resumeDraft
+unfolding resumeDraft
+resume-refuses = bytes-refuse _
+
+dismiss-refuses : (id : ℕ) → Refuses roomNumbers (dismissDraft id)
+unfolding dismissDraft
+dismiss-refuses id = bytes-refuse _
+
+-- ---- the readings
+
+-- what is one of few is one of more, which have all of them
+one-of-more : (few more : List ℕ) → all (map (oneOf more) few) ≡ true → (n : ℕ) → oneOf few n ≡ true → oneOf more n ≡ true
+unfolding oneOf
+one-of-more [] more h n e = absurd (let z : _≡_ {A = ℕ} 0 1 = cc in omega arith)
+one-of-more (x ∷ few) more h n e = go (eqb n x) refl e (one-of-more few more (all-split _ _ h .1) n)
   where
-    go : (b : Bool) → cond b (bytes (framesBytes touchRecord (m .frames))) (refuse noRoom) ≡ refuse n → (1 ≤ n) × (n ≤ 13)
-    go true e = absurd (let z : _≡_ {A = ℕ} 0 1 = cc in omega arith)
-    go false e = let z : noRoom ≡ n = cc in (omega arith, omega arith)
+    go : (b : Bool) → eqb n x ≡ b → cond b true (oneOf few n) ≡ true → (oneOf few n ≡ true → oneOf more n ≡ true) → oneOf more n ≡ true
+    go true w e k = rw (eqb-true n x w) (all-split _ _ h .0)
+    go false w e k = k e
 
-pub the-plain-reading's-refusal-changes-nothing : (l : List ℕ) (a : PlainAnswer) (before after : List ℕ) → ReadsPlainly l a before after → (a .refusal ≡ none → ⊥) → Unread a before after
-the-plain-reading's-refusal-changes-nothing l a before after h k = go (given (length before) (draftOf (plainly l))) refl
+plain-listed : (n : ℕ) → Listed false n → oneOf plainNumbers n ≡ true
+unfolding oneOf all
+plain-listed = one-of-more (readNumbers false) plainNumbers refl
+
+receiver-listed : (b : Bool) (n : ℕ) → Listed b n → oneOf receiverNumbers n ≡ true
+unfolding oneOf all
+receiver-listed true = one-of-more (readNumbers true) receiverNumbers refl
+receiver-listed false = one-of-more (readNumbers false) receiverNumbers refl
+
+-- ---- the plain reading
+
+draft-within : (x : Got Touch) → Tame (Listed false) x → Within plainNumbers (draftOf x)
+draft-within (got m t) h = tt
+draft-within (bad e) h = plain-listed e h
+
+plain-refuses : (l : List ℕ) (a : PlainAnswer) (before after : List ℕ) → ReadsPlainly l a before after → (a .refusal ≡ none → ⊥) → Unread a before after
+unfolding oneOf
+plain-refuses l a before after h u =
+    go (given (length before) (draftOf (plainly l))) refl (given-within plainNumbers (draftOf (plainly l)) (length before) refl (draft-within (plainly l) (message-tame false l)))
   where
-    go : (x : Draft) → given (length before) (draftOf (plainly l)) ≡ x → Unread a before after
-    go (bytes s) e = absurd (k (ap (λ (v : PlainAnswer). v .refusal) (h .answer ∙ ap (plain.answered (timeOf (plainly l))) e)))
-    go (refuse n) e =
-        let q = h .answer ∙ ap (plain.answered (timeOf (plainly l))) e in
+    go : (x : Draft) → given (length before) (draftOf (plainly l)) ≡ x → Within plainNumbers x → Unread a before after
+    go (bytes s) e i = absurd (u (ap (λ (v : PlainAnswer). v .refusal) (h .answer ∙ ap (plainAnswered (timeOf (plainly l))) e)))
+    go (refuse n) e i =
+        let q = h .answer ∙ ap (plainAnswered (timeOf (plainly l))) e in
         let m : a .refusal ≡ n = ap (λ (v : PlainAnswer). v .refusal) q in
-        let b = given-numbered (length before) (plainly l) (plainly-tame l) n e in
-        record {
-          output = h .output ∙ ap (left before) e;
-          others = q ∙ ap plain.refusal (sym m);
-          low = rw m (b .0);
-          high = rw m (b .1);
-        }
+        record { number = rw m i; others = q ∙ ap plainRefusal (sym m); output = h .output ∙ ap (left before) e }
 
--- THE DEMAND, over the public calls
-pub record ARefusalChangesNothing : Type 0 where
-  pub receiver : (r : Receiver) (message before : List ℕ) (q : Receiver) (a : Answer) (after : List ℕ) → Receives r message before q a after → (a .refusal ≡ none → ⊥) → Unchanged r before q a after
-  pub plain : (l : List ℕ) (a : PlainAnswer) (before after : List ℕ) → ReadsPlainly l a before after → (a .refusal ≡ none → ⊥) → Unread a before after
-  pub writers : (d : Draft) (w : Written) (before after : List ℕ) → Writes d w before after → (w .refusal ≡ none → ⊥) → Unwritten d w before after
+-- ---- the receiver
 
-pub demand-1 : ARefusalChangesNothing
+refused-by : (r : Receiver) (before : List ℕ) (x : Got Effect) → Tame (Listed (judged r)) x → (answerAfter x (length before) .refusal ≡ none → ⊥)
+    → Unchanged r before (receiverAfter r x (length before)) (answerAfter x (length before)) (left before (given (length before) (effectDraft x)))
+unfolding receiverAfter answerAfter given oneOf
+refused-by r before (bad n) h u = record { number = receiver-listed (judged r) n h; others = refl; receiver = refl; output = refl }
+refused-by r before (got e t) h u = go (leb (length (e .bytes)) (length before)) u
+  where
+    go : (b : Bool) → (cond b (answerOf e) (receiverRefusal noRoom) .refusal ≡ none → ⊥)
+        → Unchanged r before (cond b (e .receiver) r) (cond b (answerOf e) (receiverRefusal noRoom)) (left before (cond b (bytes (e .bytes)) (refuse noRoom)))
+    go true u = absurd (u refl)
+    go false u = record { number = refl; others = refl; receiver = refl; output = refl }
+
+receiver-refuses : (r : Receiver) (message before : List ℕ) (q : Receiver) (a : Answer) (after : List ℕ) → Receives r message before q a after → (a .refusal ≡ none → ⊥) → Unchanged r before q a after
+receiver-refuses r message before q a after h u =
+    rw (h .kept, h .answered, h .output) (refused-by r before (effect r message) (effect-tame r message) (λ z. u (ap (λ (b : Answer). b .refusal) (h .answered) ∙ z)))
+
+-- ---- the demand
+
+pub demand-1 : EveryRefusal
 demand-1 =
     record {
-      receiver = a-refusal-changes-nothing;
-      plain = the-plain-reading's-refusal-changes-nothing;
-      writers = a-writer's-refusal-changes-nothing;
+      receive = λ r message before x. receiver-refuses r message before (x .receiver) (x .answer);
+      kangirlo-receive = receiver-refuses;
+      plain = plain-refuses;
+      write-u2 = integer-refuses 1 0 0;
+      write-s2 = λ z. integer-refuses 1 1 (minus z) (natAbs z);
+      write-u4 = integer-refuses 2 0 0;
+      write-s4 = λ z. integer-refuses 2 1 (minus z) (natAbs z);
+      write-u8 = integer-refuses 3 0 0;
+      write-head = λ head. bytes-refuse _;
+      write-contact = λ kind contact. bytes-refuse _;
+      write-server-ready = server-ready-refuses;
+      write-client-ready = client-ready-refuses;
+      write-touch = touch-refuses;
+      write-suspend = suspend-refuses;
+      write-resume = resume-refuses;
+      write-dismiss = dismiss-refuses;
     }

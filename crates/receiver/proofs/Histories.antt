@@ -29,13 +29,13 @@ use Rattle.stream.proofs.Demand as demand
 use Rattle.receiver.specs.Receive.{off, fresh, effect, draftOf, Receives}
 use Rattle.receiver.specs.declared.Receiver.{Receiver}
 use Rattle.receiver.specs.declared.Answer.{Answer}
-use Rattle.receiver.specs.History.{Sent, OfBytes, messagesOf, next, answerTo, wrote, after, written, Roomy, tableOf, touchIn, framesTaken, Unopened, rested, machineAt, bytesAt, messageOf, Cut, AsRested, CancelledAfter, Silent, Unchanged, recordsIn, path, touchProfile, streamOf}
+use Rattle.receiver.specs.History.{Sent, OfBytes, messagesOf, next, answerTo, wrote, after, written, Roomy, tableOf, touchIn, framesTaken, Unopened, rested, machineAt, bytesAt, messageOf, Cut, AsRested, CancelledAfter, Silent, recordsIn, path, touchProfile, streamOf}
 use Rattle.receiver.proofs.Lawful.{touch-law}
 use Rattle.receiver.proofs.Streaming.{givenBy, givens, given-frames, stream-after, stream-written, givens-unopened}
 use Rattle.receiver.proofs.Invariants.{fresh-kept, history-kept, givens-proper, answer-counts}
 use Rattle.receiver.proofs.Rested.{as-rested}
 use Rattle.receiver.proofs.Cutting.{rest-of-message}
-use Rattle.receiver.proofs.Refusing.{left-laid, refusal-changes-nothing, refused-as-none}
+use Rattle.receiver.proofs.Refusing.{left-laid, refused-as-none}
 use Rattle.contacts.specs.Touch.{touchView}
 
 -- ---- HISTORIES ARE THOSE OF THE CONTRACT
@@ -147,12 +147,8 @@ pub a-rested-receiver-can-be-given-that-frame : (r : Receiver) (x : Sent) → By
 a-rested-receiver-can-be-given-that-frame r x b time fs f gs e room =
     record { time = time; whole = e; part = rest-of-message r (x .message) b time fs (f ∷ gs) e }
 
--- ---- "A REFUSAL ANSWERS ITS NUMBER WITH ALL OTHER FIELDS 0; THE RECEIVER .. AND THE OUTPUT STAY AS THEY WERE"
+-- ---- "REFUSED ONES AMONG THEM"
 
--- Of any step that the contract allows.
-pub a-refusal-changes-nothing : (r : Receiver) (message before : List ℕ) (q : Receiver) (a : Answer) (output : List ℕ) → Receives r message before q a output → (a .refusal ≡ none → ⊥) → Unchanged r before q a output
-a-refusal-changes-nothing = refusal-changes-nothing
-
--- So a refused message of a history is as none.
+-- A refused message of a history is as none.
 pub a-refused-message-is-as-none : (r : Receiver) (x : Sent) → (answerTo r x .refusal ≡ none → ⊥) → (next r x ≡ r) × (wrote r x ≡ [])
 a-refused-message-is-as-none = refused-as-none

@@ -11,6 +11,7 @@ use lib.ListN.{length, length-append, length-set}
 use Rattle.paper.specs.Refusals.{noRoom}
 use Rattle.slices.specs.Writing.{bytes, refuse, given}
 use Rattle.formats.specs.Format.{Got, got, bad}
+use Rattle.formats.proofs.Refusing.{Tame}
 use Rattle.states.specs.Table.{out, hovering}
 use Rattle.house.specs.Fields.{recordBytes}
 use Rattle.house.specs.declared.Contact.{Contact}
@@ -25,12 +26,12 @@ use Rattle.moves.proofs.Dismissal.{dismiss-length}
 use Rattle.receiver.specs.declared.Receiver.{Receiver}
 use Rattle.receiver.specs.declared.Answer.{Answer}
 use Rattle.receiver.specs.Limits.{mostOutput}
-use Rattle.receiver.specs.Receive.{rulesOf, machineOf, Effect, touched, effect, draftOf, refusal, answerOf, answerAfter, untimed}
+use Rattle.receiver.specs.Receive.{rulesOf, machineOf, judged, Effect, touched, effect, draftOf, refusal, answerOf, answerAfter, untimed}
 use Rattle.receiver.specs.History.{Sent, next, answerTo, wrote, writtenBy}
 use Rattle.receiver.proofs.Became.{Became, became, refused, settles, touches, dismisses}
 use Rattle.receiver.proofs.Bound.{no-message-writes-more}
 use Rattle.receiver.proofs.Streaming.{bytes-touched, machine-touched}
-use Rattle.receiver.proofs.Refusing.{Tame, effect-tame}
+use Rattle.receiver.proofs.Refusing.{Listed, not-room, effect-tame}
 use Rattle.receiver.proofs.Weight.{verdict-long}
 use Rattle.contacts.specs.Touch.{touchView}
 
@@ -110,9 +111,9 @@ module _ (r : Receiver) (h : length (r .states) ≡ contacts) (x : Sent) where
       by e true w k z = omega arith
       by e false w k z = omega (arith, leb-false (length (e .bytes)) (x .room) w)
 
-      go : (y : Got Effect) → effect r (x .message) ≡ y → Tame y → answerAfter y (x .room) .refusal ≡ noRoom → ⊥
+      go : (y : Got Effect) → effect r (x .message) ≡ y → Tame (Listed (judged r)) y → answerAfter y (x .room) .refusal ≡ noRoom → ⊥
       go (got e t) w k z = by e (leb (length (e .bytes)) (x .room)) refl (no-message-writes-more r h (x .message) e t w) z
-      go (bad n) w k z = omega (arith, k .high)
+      go (bad n) w k z = not-room (judged r) (rw z at k)
 
 -- ---- all contacts are kept
 

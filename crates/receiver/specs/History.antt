@@ -1,5 +1,5 @@
 -- Histories of one receiver, and the path of a contact through the records that they write.
-use Prim.Native.Nat.{ℕ, _≤_}
+use Prim.Native.Nat.{ℕ}
 use mathlib.Core.Path.{_≡_}
 use mathlib.Core.Bool.{true, false, cond, not}
 use mathlib.Core.List.{List, [], _∷_, _++_, map}
@@ -25,7 +25,7 @@ use Rattle.machine.specs.Table.{Table, resting}
 use Rattle.machine.specs.Machine.{Machine}
 use Rattle.receiver.specs.declared.Receiver.{Receiver}
 use Rattle.receiver.specs.declared.Answer.{Answer}
-use Rattle.receiver.specs.Receive.{off, machineOf, withTable, judged, takes, effect, draftOf, refusal, receiverAfter, answerAfter, untimedBy}
+use Rattle.receiver.specs.Receive.{off, machineOf, withTable, judged, takes, effect, draftOf, receiverAfter, answerAfter, untimedBy}
 use Rattle.contacts.specs.Touch.{touchView, touchRules}
 use Rattle.stream.specs.Stream.{Profile, Stream, unopened}
 use Rattle.stream.specs.Stream as stream
@@ -60,15 +60,6 @@ writtenBy (refuse e) = []
 
 unfoldable pub wrote : Receiver → Sent → List ℕ
 wrote r x = writtenBy (given (x .room) (draftOf (effect r (x .message))))
-
--- "A refusal answers its number with all other fields 0; the receiver, mode and first-frame mark included, and the output stay as they were":
--- what a step keeps, answers and leaves in the output where it refuses; its number is one of the table's first 13
-pub record Unchanged (r : Receiver) (before : List ℕ) (kept : Receiver) (answer : Answer) (after : List ℕ) : Type 0 where
-  pub receiver : kept ≡ r
-  pub output : after ≡ before
-  pub others : answer ≡ refusal (answer .refusal)
-  pub low : 1 ≤ answer .refusal
-  pub high : answer .refusal ≤ 13
 
 -- what a history leaves and writes
 unfoldable pub after : Receiver → List Sent → Receiver

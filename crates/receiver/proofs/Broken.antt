@@ -49,6 +49,20 @@ cancel-as-engaged : walked (one 1 0x0A 7 8 ∷ one 2 0x24 7 8 ∷ []) ≡ broken
 unfolding paths.path pathStep next placeOf from sameNumber
 cancel-as-engaged = refl
 
+-- a cancel with the flags of a lift
+cancel-as-lift : walked (one 1 0x19 7 8 ∷ one 2 0x04 7 8 ∷ []) ≡ broken
+unfolding paths.path pathStep next placeOf from sameNumber
+cancel-as-lift = refl
+
+-- a dismissal of a hovering contact; with the flags of a cancel
+dismiss-hovering : walked (one 1 0x0A 7 8 ∷ one 3 0x02 7 8 ∷ []) ≡ at out origin
+unfolding paths.path pathStep next placeOf from sameNumber
+dismiss-hovering = refl
+
+dismiss-as-cancel : walked (one 1 0x0A 7 8 ∷ one 3 0x22 7 8 ∷ []) ≡ broken
+unfolding paths.path pathStep next placeOf from sameNumber
+dismiss-as-cancel = refl
+
 -- a dismissal of an engaged contact
 dismiss-engaged : walked (one 1 0x19 7 8 ∷ one 3 0x02 7 8 ∷ []) ≡ broken
 unfolding paths.path pathStep next placeOf from sameNumber

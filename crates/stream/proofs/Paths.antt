@@ -27,7 +27,7 @@ use Rattle.machine.proofs.Table.{state-same, place-same, state-other, place-oth
 use Rattle.machine.proofs.Conforms.{every-first, every-others, distinct-first, distinct-others, legal-behind, stays-behind}
 use Rattle.machine.proofs.Machine.{cancel-active, cancel-out}
 use Rattle.stream.specs.Stream.{Profile, Stream, Given, nothing, settings, frames, dismissal, next, wrote, after, written}
-use Rattle.stream.specs.Path.{recordsFrom, recordsIn, Seen, head, contact, Path, at, andOn, mayStep, stepped, pathStep, path}
+use Rattle.stream.specs.Path.{recordsFrom, recordsIn, Seen, head, contact, Path, at, andOn, ofKind, mayStep, stepped, pathStep, path}
 use Rattle.stream.specs.Asked.{Laws, All, FrameFits, Proper, AllProper}
 use Rattle.stream.proofs.Steadiness.{Sound, Conforming, conforming, moved-sound, Judged, judged, injects, ignores, Steady, step-steady, beyond}
 use Rattle.stream.proofs.Kept.{Kept, next-kept, timed-fit}
@@ -210,11 +210,11 @@ module _ {S C R : Type 0} {profile : Profile S C} {table : ℕ → ℕ → ℕ} 
     stored-other : (k s : ℕ) (p : Point) → (id ≡ k → ⊥) → LeadsBy k s p (storedBytes (profile .view) kind flags t id) s p
     stored-other k s p n = other-leads kind stored (omega arith) high stored-fits k s p (λ e. n (sym stored-id ∙ e))
 
-    stored-own : table flags (stateAt t id) ≡ out → LeadsBy id (stateAt t id) (placeAt t id) (storedBytes (profile .view) kind flags t id) out origin
-    stored-own e =
+    stored-own : ofKind kind flags (stateAt t id) ≡ true → table flags (stateAt t id) ≡ out → LeadsBy id (stateAt t id) (placeAt t id) (storedBytes (profile .view) kind flags t id) out origin
+    stored-own k e =
         rw stored-id at
         (own-leads kind stored (omega arith) high stored-fits (stateAt t id) (placeAt t id) out origin
-        (rw (stored-flags, stored-place, e, ne-eqb kind 1 (λ z. omega arith), same-place (placeAt t id)))
+        (rw (stored-flags, stored-place, k, e, ne-eqb kind 1 (λ z. omega arith), same-place (placeAt t id)))
         (rw (stored-flags, e)))
 
   module _ (t : Table) (h : SoundBy t) where
@@ -233,7 +233,7 @@ module _ {S C R : Type 0} {profile : Profile S C} {table : ℕ → ℕ → ℕ} 
         go : (b : Bool) → active (stateAt t id) ≡ b → LeadsBy id (stateAt t id) (placeAt t id) (cancelBytes (profile .view) t id) out origin
         go true e =
             rw (cancel-active (profile .view) t id e)
-            (stored-own t h cancelKind (cancelFlags (stateAt t id)) id (lit< tt) (lit≤ tt) (cancel-small (stateAt t id)) l (law .steps .cancel (stateAt t id) (h .states id) e))
+            (stored-own t h cancelKind (cancelFlags (stateAt t id)) id (lit< tt) (lit≤ tt) (cancel-small (stateAt t id)) l (eq-eqb (cancelFlags (stateAt t id)) (cancelFlags (stateAt t id)) refl) (law .steps .cancel (stateAt t id) (h .states id) e))
         go false e =
             let z = out-of (stateAt t id) e in
             rw (cancel-out (profile .view) t id e, z, h .places id z) (leads-none id out origin)
@@ -292,7 +292,7 @@ module _ {S C R : Type 0} {profile : Profile S C} {table : ℕ → ℕ → ℕ} 
             on true x =
                 let z : i ≡ id = eqb-true _ _ x in
                 rw (← z, state-same t i out origin (h .whole) k, place-same t i out origin (h .whole) k)
-                (stored-own t h dismissKind 0x02 i (lit< tt) (lit≤ tt) (lit< tt) k (next-out (eqb-true _ _ e)))
+                (stored-own t h dismissKind 0x02 i (lit< tt) (lit≤ tt) (lit< tt) k refl (next-out (eqb-true _ _ e)))
             on false x =
                 let n : i ≡ id → ⊥ = eqb-false _ _ x in
                 rw (state-other t i out origin id (λ z. n (sym z)), place-other t i out origin id (λ z. n (sym z)))

@@ -6,9 +6,10 @@ use lib.Dec.{eqb}
 use lib.ListN.{length, drop}
 use Rattle.states.specs.Table.{illegal}
 use Rattle.house.specs.Fields.{recordBytes}
-use Rattle.house.specs.Layout.{touched}
+use Rattle.house.specs.Layout.{touched, cancelled, dismissed}
 use Rattle.house.specs.declared.Point.{Point}
 use Rattle.machine.specs.Conforms.{lifts, samePlace, placeIn}
+use Rattle.machine.specs.Machine.{cancelFlags}
 
 -- ---- records in bytes, over what is read at the front of a slice
 
@@ -38,6 +39,13 @@ abbrev pub andOn : Path → (ℕ → Point → Path) → Path
 andOn (at s p) f = f s p
 andOn broken f = broken
 
+-- "Kind 1 is a frame's contact; 2 a cancel, flags 0x24 if engaged, 0x22 if hovering; 3 a dismissal, flags 0x02": flags of a kind, in the state s
+abbrev pub ofKind : (kind flags s : ℕ) → Bool
+ofKind kind flags s =
+    cond (eqb kind touched) true
+    (cond (eqb kind cancelled) (eqb flags (cancelFlags s))
+    (cond (eqb kind dismissed) (eqb flags 0x02) false))
+
 -- "With 0x0C, 0x04 and 0x24 the position must be the stored one"; "Kinds 2 and 3 carry the stored position"
 abbrev pub asStored : ℕ → ℕ → Bool
 asStored kind flags = cond (eqb kind touched) (lifts flags) true
@@ -47,7 +55,9 @@ asStored kind flags = cond (eqb kind touched) (lifts flags) true
 module _ (next : ℕ → ℕ → ℕ) where
   -- from the state s and the position p, with flags and at the position q
   abbrev pub mayStep : (kind flags : ℕ) (q : Point) (s : ℕ) (p : Point) → Bool
-  mayStep kind flags q s p = cond (eqb (next flags s) illegal) false (cond (asStored kind flags) (samePlace q p) true)
+  mayStep kind flags q s p =
+      cond (eqb (next flags s) illegal) false
+      (cond (ofKind kind flags s) (cond (asStored kind flags) (samePlace q p) true) false)
 
   -- "An injected contact's position is stored with its state. A contact out of range has position 0, 0."
   abbrev pub stepped : (flags : ℕ) (q : Point) (s : ℕ) → Path

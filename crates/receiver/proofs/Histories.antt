@@ -23,17 +23,17 @@ use Rattle.stream.specs.Stream.{Stream, opens, unopened, NoneActive}
 use Rattle.stream.specs.Stream as stream
 use Rattle.stream.specs.Path.{at}
 use Rattle.stream.proofs.Steadiness.{none-active-rests}
-use Rattle.stream.proofs.Quiet.{quiet-bytes, quiet-machine, cancel-bytes, cancel-machine}
-use Rattle.stream.proofs.Demand.{a-silent-stream-writes-nothing-until-an-opening-frame}
+use Rattle.stream.proofs.Quiet.{quiet-bytes, quiet-machine}
+use Rattle.stream.proofs.Demand.{a-silent-stream-writes-nothing-until-an-opening-frame, a-silent-stream-passes-over-frames-that-do-not-open}
 use Rattle.stream.proofs.Demand as demand
 use Rattle.receiver.specs.Receive.{off, fresh, effect, draftOf, Receives}
 use Rattle.receiver.specs.declared.Receiver.{Receiver}
 use Rattle.receiver.specs.declared.Answer.{Answer}
 use Rattle.receiver.specs.History.{Sent, OfBytes, messagesOf, next, answerTo, wrote, after, written, Roomy, tableOf, touchIn, framesTaken, Unopened, rested, machineAt, bytesAt, messageOf, Cut, AsRested, CancelledAfter, Silent, recordsIn, path, touchProfile, streamOf}
 use Rattle.receiver.proofs.Lawful.{touch-law}
-use Rattle.receiver.proofs.Streaming.{givenBy, givens, given-frames, stream-after, stream-written, givens-unopened}
+use Rattle.receiver.proofs.Streaming.{givenBy, givens, given-frames, stream-wrote, stream-after, stream-written, givens-unopened}
 use Rattle.receiver.proofs.Invariants.{fresh-kept, history-kept, givens-proper, answer-counts}
-use Rattle.receiver.proofs.Rested.{as-rested}
+use Rattle.receiver.proofs.Rested.{at-rest, as-rested}
 use Rattle.receiver.proofs.Cutting.{rest-of-message}
 use Rattle.receiver.proofs.Refusing.{left-laid, refused-as-none}
 use Rattle.contacts.specs.Touch.{touchView}
@@ -103,13 +103,13 @@ pub frames-that-do-not-open-are-ignored : (rules : Rules Contact) (m : Machine) 
 frames-that-do-not-open-are-ignored rules m fs h u = (quiet-bytes touchView rules m fs h u, quiet-machine touchView rules m fs h u)
 
 -- Within a message: after the frames fs, the cancelled frame f writes its records; the frames gs, none of which opens, write nothing; and the
--- frames hs after them are as to a machine at rest that ignores.
-pub after-a-cancelled-frame-nothing-until-an-opening-one : (rules : Rules Contact) (m : Machine) (fs : List (Frame Contact)) (f : Frame Contact) (gs hs : List (Frame Contact))
-    → verdict touchView rules (runMachine touchView rules m fs) (f .contacts) ≡ cancelled → unopened touchView gs ≡ true
-    → let rest : Machine = record { table = resting; running = false } in
-    (runBytes touchView rules m (fs ++ (f ∷ (gs ++ hs))) ≡ (runBytes touchView rules m fs ++ cancels touchView (runMachine touchView rules m fs .table)) ++ runBytes touchView rules rest hs)
-    × (runMachine touchView rules m (fs ++ (f ∷ (gs ++ hs))) ≡ runMachine touchView rules rest hs)
-after-a-cancelled-frame-nothing-until-an-opening-one rules m fs f gs hs v u = (cancel-bytes touchView rules m fs f gs hs v u, cancel-machine touchView rules m fs f gs hs v u)
+-- frames hs after them write what they do to any silent receiver with the same settings.
+pub after-a-cancelled-frame-nothing-until-an-opening-one : (r : Receiver) (x : Sent) (fs : List (Frame Contact)) (f : Frame Contact) (gs hs : List (Frame Contact))
+    → framesTaken r x ≡ fs ++ (f ∷ (gs ++ hs)) → CancelledAfter r fs f → unopened touchView gs ≡ true
+    → (q : Receiver) → Silent q → q .settings ≡ r .settings
+    → wrote r x ≡ (bytesAt r fs ++ cancels touchView (machineAt r fs .table)) ++ bytesAt q hs
+after-a-cancelled-frame-nothing-until-an-opening-one r x fs f gs hs e v u q k z =
+    stream-wrote r x ∙ demand.after-a-cancelled-frame-nothing-until-an-opening-one touchProfile (streamOf r) (givenBy r x) fs f gs hs (given-frames r x ∙ e) v u (streamOf q) k z
 
 -- Over messages: a receiver that ignores and has no active contact writes nothing, dismissals included, and stays so, as long as no opening
 -- frame is accepted.
@@ -117,6 +117,12 @@ pub a-silent-receiver-writes-nothing-until-an-opening-frame : (r : Receiver) (h 
 a-silent-receiver-writes-nothing-until-an-opening-frame r h k u =
     let q = a-silent-stream-writes-nothing-until-an-opening-frame touchProfile (streamOf r) (givens r h) k (givens-unopened r h u) in
     (stream-written r h ∙ q .0, subst stream.Silent (sym (stream-after r h)) (q .1))
+
+-- Also where that frame stands inside a message: of the frames gs and hs, none of gs opening, it writes what it does of hs alone.
+pub a-silent-receiver-passes-over-frames-that-do-not-open : (r : Receiver) (x : Sent) (gs hs : List (Frame Contact)) → Silent r → framesTaken r x ≡ gs ++ hs → unopened touchView gs ≡ true
+    → wrote r x ≡ bytesAt r hs
+a-silent-receiver-passes-over-frames-that-do-not-open r x gs hs k e u =
+    stream-wrote r x ∙ a-silent-stream-passes-over-frames-that-do-not-open touchProfile (streamOf r) (givenBy r x) gs hs k (given-frames r x ∙ e) u
 
 -- Both: of an accepted message x with the frames fs, f, gs, where f is cancelled and none of gs opens, and of all messages after it, as long as
 -- no opening frame is accepted, nothing is written but the records of fs and the cancel's own.
@@ -131,6 +137,12 @@ after-a-cancel-nothing-until-an-opening-frame r x h fs f gs e v u k =
 
 -- ---- "FROM ANY OPENING FRAME ACCEPTED WHILE NO CONTACT IS ACTIVE, THE RECORDS AND THE CONTACT TABLE ARE THOSE OF A RESTED RECEIVER WITH THE
 -- SAME SETTINGS GIVEN THAT FRAME AND ALL THAT FOLLOWS, AS LONG AS NEITHER IS REFUSED FOR LACK OF ROOM"
+
+-- "A rested receiver has accepted event 2, is past its first frame, is running, and has no active contact.": every receiver of which this is so
+-- is the one that `rested` gives for its settings.
+pub a-receiver-at-rest-is-the-rested-one : (h : List Sent) → OfBytes h → let r : Receiver = after fresh h in
+    off (r .ready) ≡ false → off (r .begun) ≡ false → off (r .ignoring) ≡ true → NoneActive (tableOf r) → r ≡ rested (r .settings)
+a-receiver-at-rest-is-the-rested-one h b = at-rest (after fresh h) (history-kept h b)
 
 -- r is the receiver after any history. Its next message x has the opening frame f, before which no contact is active, in either mode; the
 -- rested receiver gets y instead, which begins with f; then both get the same messages, each lent whatever room.

@@ -2,10 +2,11 @@
 -- Assumes nothing.
 use Prim.Native.Nat.{ℕ, _+_, _≤_}
 use mathlib.Core.Path.{_≡_, refl, sym, subst}
-use mathlib.Core.Bool.{true, false}
+use mathlib.Core.Bool.{Bool, true, false, cond, not}
 use mathlib.Core.List.{List, [], _∷_}
 use native.Mathlib.Omega.{arith}
 use borrow.Author.Tests.{eqb-false}
+use lib.Dec.{eqb}
 use lib.ListN.{length, drop}
 use Rattle.digits.specs.Digits.{Bytes}
 use Rattle.digits.proofs.Laws.{bytes-drop}
@@ -16,7 +17,7 @@ use Rattle.fields.specs.Integers.{taken}
 use Rattle.house.specs.Fits.{ContactFits}
 use Rattle.house.specs.declared.Contact.{Contact}
 use Rattle.house.proofs.WellFormed.{never}
-use Rattle.framing.specs.Frame.{Frame}
+use Rattle.framing.specs.Frame.{Frame, begunBy}
 use Rattle.touch.specs.Touch.{Touch, body}
 use Rattle.machine.specs.Table.{resting}
 use Rattle.stream.specs.Stream.{Stream}
@@ -27,8 +28,8 @@ use Rattle.stream.proofs.Kept as stream
 use Rattle.stream.proofs.Demand.{counts-add-up-to-frame-count}
 use Rattle.receiver.specs.declared.Receiver.{Receiver}
 use Rattle.receiver.specs.declared.Answer.{Answer}
-use Rattle.receiver.specs.Receive.{off, machineOf, fresh, touched, judged}
-use Rattle.receiver.specs.History.{Sent, OfBytes, next, answerTo, after, tableOf, framesTaken, touchProfile, streamOf}
+use Rattle.receiver.specs.Receive.{off, mark, machineOf, fresh, touched, judged}
+use Rattle.receiver.specs.History.{Sent, OfBytes, next, answerTo, after, tableOf, framesTaken, touchProfile, streamOf, machineAt}
 use Rattle.receiver.proofs.Became.{Became, became, refused, settles, touches, dismisses}
 use Rattle.receiver.proofs.Fitting.{body-fits}
 use Rattle.receiver.proofs.Lawful.{OneOfThree, PlaceFits, touch-law}
@@ -40,14 +41,25 @@ use Rattle.receiver.proofs.Streaming.{fromBecame, givenBy, givens, stre
 abbrev pub StreamKept : Stream Ready → Type 0
 StreamKept = stream.Kept touchProfile OneOfThree PlaceFits
 
+-- each mark is 0 or 1
+pub record Marked (r : Receiver) : Type 0 where
+  pub ready : r .ready ≤ 1
+  pub begun : r .begun ≤ 1
+  pub ignoring : r .ignoring ≤ 1
+
 pub record Kept (r : Receiver) : Type 0 where
   pub stream : StreamKept (streamOf r)
-  pub ready : r .ready ≤ 1
+  pub marks : Marked r
   pub unready : off (r .ready) ≡ true → tableOf r ≡ resting
 
 pub fresh-kept : Kept fresh
 unfolding fresh
-fresh-kept = record { stream = resting-steady touch-law 0 (machineOf fresh) refl; ready = omega arith; unready = λ e. refl }
+fresh-kept =
+    record {
+      stream = resting-steady touch-law 0 (machineOf fresh) refl;
+      marks = record { ready = omega arith; begun = omega arith; ignoring = omega arith };
+      unready = λ e. refl;
+    }
 
 -- the frames of a message that a receiver reads fit its records
 pub message-fits : (r : Receiver) (l : List ℕ) (m : Touch) (t : List ℕ) → Bytes l → body taken (judged r) (drop headerBytes l) ≡ got m t → All (FrameFits ContactFits) (m .frames)
@@ -60,12 +72,24 @@ became-proper r l hl k (settles s o) = k .unready o
 became-proper r l hl k (touches m t o e) = message-fits r l m t hl e
 became-proper r l hl k (dismisses id t o e) = tt
 
-became-ready : (r : Receiver) (l : List ℕ) {q : Receiver} {s : List ℕ} {a : Answer} {fs : List (Frame Contact)} → Kept r → Became r l q s a fs → q .ready ≤ 1
+mark-small : (b : Bool) → mark b ≤ 1
+mark-small true = omega arith
+mark-small false = omega arith
+
+begun-small : (begun n : ℕ) → begun ≤ 1 → begunBy 1 begun n ≤ 1
+begun-small begun n h = go (eqb n 0)
+  where
+    go : (b : Bool) → cond b begun 1 ≤ 1
+    go true = h
+    go false = omega arith
+
+became-marked : (r : Receiver) (l : List ℕ) {q : Receiver} {s : List ℕ} {a : Answer} {fs : List (Frame Contact)} → Marked r → Became r l q s a fs → Marked q
 unfolding touched
-became-ready r l k (refused n) = k .ready
-became-ready r l k (settles s o) = omega arith
-became-ready r l k (touches m t o e) = k .ready
-became-ready r l k (dismisses id t o e) = k .ready
+became-marked r l k (refused n) = k
+became-marked r l k (settles s o) = record { ready = omega arith; begun = k .begun; ignoring = k .ignoring }
+became-marked r l k (touches m t o e) =
+    record { ready = k .ready; begun = begun-small (r .begun) (length (m .frames)) (k .begun); ignoring = mark-small (not (machineAt r (m .frames) .running)) }
+became-marked r l k (dismisses id t o e) = record { ready = k .ready; begun = k .begun; ignoring = k .ignoring }
 
 became-unready : (r : Receiver) (l : List ℕ) {q : Receiver} {s : List ℕ} {a : Answer} {fs : List (Frame Contact)} → Kept r → Became r l q s a fs → off (q .ready) ≡ true → tableOf q ≡ resting
 unfolding touched
@@ -79,7 +103,7 @@ next-kept r x hl k =
     let p = became-proper r (x .message) hl k (became r x) in
     record {
       stream = subst StreamKept (sym (stream-next r x)) (stream-kept touch-law (streamOf r) (givenBy r x) p (k .stream));
-      ready = became-ready r (x .message) k (became r x);
+      marks = became-marked r (x .message) (k .marks) (became r x);
       unready = became-unready r (x .message) k (became r x);
     }
 
@@ -91,8 +115,9 @@ after-kept r (x ∷ h) b k = after-kept (next r x) h (b .1) (next-kept r x (b .0
 pub history-kept : (h : List Sent) → OfBytes h → Kept (after fresh h)
 history-kept h b = after-kept fresh h b fresh-kept
 
-pub ready-one : (r : Receiver) → Kept r → off (r .ready) ≡ false → r .ready ≡ 1
-ready-one r k o = omega (arith, k .ready, eqb-false (r .ready) 0 o)
+-- a mark that is not off
+pub mark-one : (n : ℕ) → n ≤ 1 → off n ≡ false → n ≡ 1
+mark-one n h o = omega (arith, eqb-false n 0 o)
 
 -- all that a history is to the stream is proper
 pub givens-proper : (r : Receiver) (h : List Sent) → OfBytes h → Kept r → AllProper touchProfile ContactFits (streamOf r) (givens r h)

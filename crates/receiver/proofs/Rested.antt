@@ -5,6 +5,7 @@ use mathlib.Core.Path.{_≡_, refl, sym, ap, _∙_}
 use mathlib.Core.Bool.{Bool, true, false, cond, not}
 use mathlib.Core.List.{List, [], _∷_, _++_, append-assoc}
 use native.Mathlib.Omega.{arith}
+use borrow.Author.Tests.{eqb-true}
 use lib.Dec.{leb}
 use lib.ListN.{length, drop}
 use Rattle.paper.specs.Refusals.{noRoom}
@@ -22,15 +23,16 @@ use Rattle.framing.specs.Frame.{Frame, begunBy}
 use Rattle.touch.specs.Touch.{Touch, body}
 use Rattle.stream.specs.Stream.{Stream, frames, opens, NoneActive}
 use Rattle.stream.specs.Stream as stream
+use Rattle.stream.proofs.Steadiness.{none-active-rests}
 use Rattle.stream.proofs.Demand.{from-an-opening-frame-as-if-rested}
 use Rattle.receiver.specs.declared.Receiver.{Receiver}
 use Rattle.receiver.specs.declared.Answer.{Answer}
 use Rattle.receiver.specs.Receive.{off, mark, Effect, judged, touched, effect, refusal, answerOf, receiverAfter, answerAfter, untimed, timeBy}
-use Rattle.receiver.specs.History.{Sent, next, answerTo, wrote, after, written, outcomes, messagesOf, Roomy, touchIn, rested, touchProfile, streamOf, machineAt, bytesAt, Cut, AsRested}
+use Rattle.receiver.specs.History.{Sent, next, answerTo, wrote, after, written, outcomes, messagesOf, Roomy, tableOf, touchIn, rested, touchProfile, streamOf, machineAt, bytesAt, Cut, AsRested}
 use Rattle.receiver.proofs.Became.{Does, does, fails, settles, touches, dismisses}
 use Rattle.receiver.proofs.Lawful.{touch-law}
 use Rattle.receiver.proofs.Streaming.{bytes-touched, stream-touched}
-use Rattle.receiver.proofs.Invariants.{Kept, message-fits, ready-one}
+use Rattle.receiver.proofs.Invariants.{Kept, message-fits, mark-one}
 use Rattle.contacts.specs.Touch.{touchView}
 
 -- ---- a receiver that frames leave is known from its stream
@@ -71,6 +73,21 @@ from-stream r time fs f gs =
 rested-stream : (x : Ready) → streamOf (rested x) ≡ stream.rested x
 unfolding rested stream.rested
 rested-stream x = refl
+
+-- "A rested receiver has accepted event 2, is past its first frame, is running, and has no active contact.": there is one for settings
+pub at-rest : (r : Receiver) → Kept r → off (r .ready) ≡ false → off (r .begun) ≡ false → off (r .ignoring) ≡ true → NoneActive (tableOf r) → r ≡ rested (r .settings)
+unfolding rested
+at-rest r k ready begun running idle =
+    let t = none-active-rests (tableOf r) (k .stream .table .whole) (k .stream .table .places) idle in
+    λ i. record {
+      ready = mark-one (r .ready) (k .marks .ready) ready i;
+      begun = mark-one (r .begun) (k .marks .begun) begun i;
+      ignoring = eqb-true (r .ignoring) 0 running i;
+      settings = r .settings;
+      states = t i .states;
+      xs = t i .xs;
+      ys = t i .ys;
+    }
 
 -- ---- a message that is not refused for lack of room
 
@@ -182,7 +199,7 @@ module _ (r : Receiver) (k : Kept r) (x y : Sent) (b : Bytes (x .message)) (fs :
   receivers-same : touched r whole .receiver ≡ touched (rested (r .settings)) part .receiver
   unfolding rested
   receivers-same =
-      let one = ready-one r k (touch-body r (x .message) whole [] (c .whole) .0) in
+      let one = mark-one (r .ready) (k .marks .ready) (touch-body r (x .message) whole [] (c .whole) .0) in
       from-stream r (c .time) fs f gs ∙ ((λ i. ofStream (one i) (streams-same i)) ∙ sym (from-stream (rested (r .settings)) (c .time) [] f gs))
 
   bytes-same : touched r whole .bytes ≡ bytesAt r fs ++ touched (rested (r .settings)) part .bytes

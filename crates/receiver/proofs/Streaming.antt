@@ -83,7 +83,7 @@ givenBy r x = fromBecame (became r x)
 pub stream-next : (r : Receiver) (x : Sent) → streamOf (next r x) ≡ stream.next touchProfile (streamOf r) (givenBy r x)
 stream-next r x = became-stream r (x .message) (became r x)
 
-stream-wrote : (r : Receiver) (x : Sent) → wrote r x ≡ stream.wrote touchProfile (streamOf r) (givenBy r x)
+pub stream-wrote : (r : Receiver) (x : Sent) → wrote r x ≡ stream.wrote touchProfile (streamOf r) (givenBy r x)
 stream-wrote r x = became-bytes r (x .message) (became r x)
 
 pub given-frames : (r : Receiver) (x : Sent) → framesGiven (givenBy r x) ≡ framesTaken r x

@@ -12,12 +12,12 @@ use Rattle.framing.proofs.Timed.{timed-length}
 use Rattle.machine.specs.Table.{Table, contacts, stateAt, placeAt, origin, resting}
 use Rattle.machine.specs.Machine.{cancels}
 use Rattle.machine.proofs.Machine.{total, counts-total}
-use Rattle.stream.specs.Stream.{Profile, Stream, Given, framesGiven, opens, unopened, Unopened, Silent, NoneActive, machineAt, bytesAt, countsAt, CancelledAfter, next, after, written, AsRested}
+use Rattle.stream.specs.Stream.{Profile, Stream, Given, framesGiven, opens, unopened, Unopened, Silent, NoneActive, machineAt, bytesAt, countsAt, CancelledAfter, next, wrote, after, written, AsRested}
 use Rattle.stream.specs.Path.{Seen, recordsIn, path, at}
 use Rattle.stream.specs.Asked.{Laws, All, FrameFits, AllProper}
 use Rattle.stream.proofs.Steadiness.{none-active-rests, resting-steady}
 use Rattle.stream.proofs.Kept.{Kept, all-front, frames-kept, next-kept}
-use Rattle.stream.proofs.Quiet.{after-quiet, since-cancel}
+use Rattle.stream.proofs.Quiet.{after-quiet, front-wrote, cancel-wrote, since-cancel}
 use Rattle.stream.proofs.Rested.{rested-from}
 use Rattle.stream.proofs.Paths.{moves-path, written-leads}
 
@@ -54,6 +54,19 @@ module _ {S C : Type 0} (profile : Profile S C) where
   -- stays so as long as no opening frame is accepted.
   pub a-silent-stream-writes-nothing-until-an-opening-frame : (s : Stream S) (gs : List (Given S C)) → Silent s → Unopened (profile .view) gs → (written profile s gs ≡ []) × Silent (after profile s gs)
   a-silent-stream-writes-nothing-until-an-opening-frame s gs k u = (after-quiet profile s gs k u .none, after-quiet profile s gs k u .still)
+
+  -- Also where that frame stands inside a message: of the frames gs and hs, none of gs opening, a silent stream writes what it does of hs alone.
+  pub a-silent-stream-passes-over-frames-that-do-not-open : (s : Stream S) (g : Given S C) (gs hs : List (Frame C)) → Silent s → framesGiven g ≡ gs ++ hs → unopened (profile .view) gs ≡ true
+      → wrote profile s g ≡ bytesAt profile s hs
+  a-silent-stream-passes-over-frames-that-do-not-open s g gs hs k e u = front-wrote profile s gs hs k u g e
+
+  -- Of a message with the frames fs, f, gs, hs, where f is cancelled and none of gs opens: the records of fs, the cancel's own, and then what hs
+  -- write to any silent stream with the same settings.
+  pub after-a-cancelled-frame-nothing-until-an-opening-one : (s : Stream S) (g : Given S C) (fs : List (Frame C)) (f : Frame C) (gs hs : List (Frame C))
+      → framesGiven g ≡ fs ++ (f ∷ (gs ++ hs)) → CancelledAfter profile s fs f → unopened (profile .view) gs ≡ true
+      → (q : Stream S) → Silent q → q .settings ≡ s .settings
+      → wrote profile s g ≡ (bytesAt profile s fs ++ cancels (profile .view) (machineAt profile s fs .table)) ++ bytesAt profile q hs
+  after-a-cancelled-frame-nothing-until-an-opening-one = cancel-wrote profile
 
   -- Of a message with the frames fs, f, gs, where f is cancelled and none of gs opens, and of all messages after it, as long as no opening frame is
   -- accepted, nothing is written but the records of fs and the cancel's own.

@@ -20,7 +20,7 @@ use Rattle.machine.proofs.Machine.{verdict-other, ignored-machine, ignored-byte
 use Rattle.stream.specs.Stream.{Profile, Stream, Given, nothing, settings, frames, dismissal, framesGiven, opens, unopened, Unopened, Silent, machineAt, bytesAt, CancelledAfter, next, wrote, after, written}
 
 -- what a cancelled frame leaves
-abbrev pub silenced : Machine
+abbrev silenced : Machine
 silenced = record { table = resting; running = false }
 
 module _ {C : Type 0} (view : View C) where
@@ -33,6 +33,10 @@ module _ {C : Type 0} (view : View C) where
   unfolding unopened every
   timed-unopened untimed [] = rw (timed-none untimed)
   timed-unopened untimed (f ∷ fs) = rw (timed-cons untimed f fs, timed-contacts untimed f, timed-unopened untimed fs)
+
+  nothing-unopened : unopened view [] ≡ true
+  unfolding unopened every
+  nothing-unopened = refl
 
   -- ---- frames that do not open, to a machine that ignores
 
@@ -55,7 +59,7 @@ module _ {C : Type 0} (view : View C) where
 
     -- a cancelled frame, the frames after it that do not open, and the others
     module _ (m : Machine) (fs : List (Frame C)) (f : Frame C) (gs hs : List (Frame C)) (v : verdict view rules (runMachine view rules m fs) (f .contacts) ≡ cancelled) (u : unopened view gs ≡ true) where
-      pub cancel-machine : runMachine view rules m (fs ++ (f ∷ (gs ++ hs))) ≡ runMachine view rules silenced hs
+      cancel-machine : runMachine view rules m (fs ++ (f ∷ (gs ++ hs))) ≡ runMachine view rules silenced hs
       unfolding runMachine
       cancel-machine =
           let n = runMachine view rules m fs in
@@ -63,7 +67,7 @@ module _ {C : Type 0} (view : View C) where
           ∙ (ap (λ (k : Machine). runMachine view rules k (gs ++ hs)) (cancelled-machine view rules n f v)
           ∙ (machine-append view rules silenced gs hs ∙ ap (λ (k : Machine). runMachine view rules k hs) (quiet-machine silenced gs refl u)))
 
-      pub cancel-bytes : runBytes view rules m (fs ++ (f ∷ (gs ++ hs))) ≡ (runBytes view rules m fs ++ cancels view (runMachine view rules m fs .table)) ++ runBytes view rules silenced hs
+      cancel-bytes : runBytes view rules m (fs ++ (f ∷ (gs ++ hs))) ≡ (runBytes view rules m fs ++ cancels view (runMachine view rules m fs .table)) ++ runBytes view rules silenced hs
       unfolding runBytes
       cancel-bytes =
           let n = runMachine view rules m fs in
@@ -80,6 +84,9 @@ pub record Nothing {S : Type 0} (s : Stream S) (bytes : List ℕ) : Type 0 where
 silent-by : {S : Type 0} (s : Stream S) → s .machine ≡ silenced → Silent s
 silent-by s e = record { ignoring = ap (λ (m : Machine). m .running) e; resting = ap (λ (m : Machine). m .table) e }
 
+silent-machine : {S : Type 0} (s : Stream S) → Silent s → s .machine ≡ silenced
+silent-machine s k = λ i. record { table = k .resting i; running = k .ignoring i }
+
 module _ {S C : Type 0} (profile : Profile S C) where
   next-quiet : (s : Stream S) (g : Given S C) → Silent s → unopened (profile .view) (framesGiven g) ≡ true → Nothing (next profile s g) (wrote profile s g)
   unfolding next wrote
@@ -88,9 +95,8 @@ module _ {S C : Type 0} (profile : Profile S C) where
   next-quiet s (frames fs) k u =
       let b = profile .untimed (s .settings) in
       let v = timed-unopened (profile .view) b fs ∙ u in
-      let e : s .machine ≡ silenced = λ i. record { table = k .resting i; running = k .ignoring i } in
       record {
-        still = silent-by (next profile s (frames fs)) (quiet-machine (profile .view) (profile .rules (s .settings)) (s .machine) (timedFrames b fs) (k .ignoring) v ∙ e);
+        still = silent-by (next profile s (frames fs)) (quiet-machine (profile .view) (profile .rules (s .settings)) (s .machine) (timedFrames b fs) (k .ignoring) v ∙ silent-machine s k);
         none = quiet-bytes (profile .view) (profile .rules (s .settings)) (s .machine) (timedFrames b fs) (k .ignoring) v;
       }
   next-quiet s (dismissal id) k u =
@@ -108,43 +114,104 @@ module _ {S C : Type 0} (profile : Profile S C) where
       let b = after-quiet (next profile s g) gs (a .still) (u .1) in
       record { still = b .still; none = rw (a .none, b .none) }
 
+  -- a message to a silent stream writes what its frames do
+  silent-wrote : (s : Stream S) (g : Given S C) → Silent s → wrote profile s g ≡ bytesAt profile s (framesGiven g)
+  unfolding wrote runBytes timedFrames
+  silent-wrote s nothing k = refl
+  silent-wrote s (settings x) k = refl
+  silent-wrote s (frames fs) k = refl
+  silent-wrote s (dismissal id) k = next-quiet s (dismissal id) k (nothing-unopened (profile .view)) .none
+
+  -- the first frames of a message, none of which opens
+  module _ (s : Stream S) (gs hs : List (Frame C)) (k : Silent s) (u : unopened (profile .view) gs ≡ true) where
+    abbrev front : List (Frame C)
+    front = timedFrames (profile .untimed (s .settings)) gs
+
+    abbrev others : List (Frame C)
+    others = timedFrames (profile .untimed (s .settings)) hs
+
+    front-unopened : unopened (profile .view) front ≡ true
+    front-unopened = timed-unopened (profile .view) (profile .untimed (s .settings)) gs ∙ u
+
+    abbrev held : Rules C
+    held = profile .rules (s .settings)
+
+    front-bytes : bytesAt profile s (gs ++ hs) ≡ bytesAt profile s hs
+    front-bytes =
+        ap (runBytes (profile .view) held (s .machine)) (timed-append (profile .untimed (s .settings)) gs hs)
+        ∙ (bytes-append (profile .view) held (s .machine) front others
+        ∙ rw (quiet-bytes (profile .view) held (s .machine) front (k .ignoring) front-unopened, quiet-machine (profile .view) held (s .machine) front (k .ignoring) front-unopened))
+
+    pub front-wrote : (g : Given S C) → framesGiven g ≡ gs ++ hs → wrote profile s g ≡ bytesAt profile s hs
+    front-wrote g e = silent-wrote s g k ∙ (ap (bytesAt profile s) e ∙ front-bytes)
+
   -- ---- a cancelled frame in a message, up to it and after it
 
   pub record Since (s : Stream S) (fs : List (Frame C)) (q : Stream S) (bytes : List ℕ) : Type 0 where
     pub silent : Silent q
     pub own : bytes ≡ bytesAt profile s fs ++ cancels (profile .view) (machineAt profile s fs .table)
 
-  module _ (s : Stream S) (fs : List (Frame C)) (f : Frame C) (gs : List (Frame C)) (v : CancelledAfter profile s fs f) (u : unopened (profile .view) gs ≡ true) where
+  module _ (s : Stream S) (fs : List (Frame C)) (f : Frame C) (gs hs : List (Frame C)) (v : CancelledAfter profile s fs f) (u : unopened (profile .view) gs ≡ true) where
     abbrev untimed : Bool
     untimed = profile .untimed (s .settings)
 
     abbrev rules : Rules C
     rules = profile .rules (s .settings)
 
-    parts : timedFrames untimed (fs ++ (f ∷ gs)) ≡ timedFrames untimed fs ++ (timedFrame untimed f ∷ (timedFrames untimed gs ++ []))
-    parts = timed-append untimed fs (f ∷ gs) ∙ rw (timed-cons untimed f gs, append-nil)
+    parts : timedFrames untimed (fs ++ (f ∷ (gs ++ hs))) ≡ timedFrames untimed fs ++ (timedFrame untimed f ∷ (timedFrames untimed gs ++ timedFrames untimed hs))
+    parts = timed-append untimed fs (f ∷ (gs ++ hs)) ∙ rw (timed-cons untimed f (gs ++ hs), timed-append untimed gs hs)
 
-    cancel-silences : Since s fs (next profile s (frames (fs ++ (f ∷ gs)))) (wrote profile s (frames (fs ++ (f ∷ gs))))
-    unfolding next wrote runMachine runBytes
-    cancel-silences =
-        let w = ap (verdict (profile .view) rules (machineAt profile s fs)) (timed-contacts untimed f) ∙ v in
-        let z = timed-unopened (profile .view) untimed gs ∙ u in
-        let am = cancel-machine (profile .view) rules (s .machine) (timedFrames untimed fs) (timedFrame untimed f) (timedFrames untimed gs) [] w z in
-        let ab = cancel-bytes (profile .view) rules (s .machine) (timedFrames untimed fs) (timedFrame untimed f) (timedFrames untimed gs) [] w z in
-        record {
-          silent = silent-by (next profile s (frames (fs ++ (f ∷ gs)))) (ap (runMachine (profile .view) rules (s .machine)) parts ∙ am);
-          own = ap (runBytes (profile .view) rules (s .machine)) parts ∙ (ab ∙ append-nil _);
-        }
+    cancelled-there : verdict (profile .view) rules (machineAt profile s fs) (timedFrame untimed f .contacts) ≡ cancelled
+    cancelled-there = ap (verdict (profile .view) rules (machineAt profile s fs)) (timed-contacts untimed f) ∙ v
+
+    -- the frames after those that do not open are as to any silent stream with these settings
+    module _ (q : Stream S) (k : Silent q) (e : q .settings ≡ s .settings) where
+      cancel-then-machine : machineAt profile s (fs ++ (f ∷ (gs ++ hs))) ≡ machineAt profile q hs
+      cancel-then-machine =
+          ap (runMachine (profile .view) rules (s .machine)) parts
+          ∙ (cancel-machine (profile .view) rules (s .machine) (timedFrames untimed fs) (timedFrame untimed f) (timedFrames untimed gs) (timedFrames untimed hs) cancelled-there (timed-unopened (profile .view) untimed gs ∙ u)
+          ∙ sym (λ i. runMachine (profile .view) (profile .rules (e i)) (silent-machine q k i) (timedFrames (profile .untimed (e i)) hs)))
+
+      cancel-then-bytes : bytesAt profile s (fs ++ (f ∷ (gs ++ hs))) ≡ (bytesAt profile s fs ++ cancels (profile .view) (machineAt profile s fs .table)) ++ bytesAt profile q hs
+      cancel-then-bytes =
+          ap (runBytes (profile .view) rules (s .machine)) parts
+          ∙ (cancel-bytes (profile .view) rules (s .machine) (timedFrames untimed fs) (timedFrame untimed f) (timedFrames untimed gs) (timedFrames untimed hs) cancelled-there (timed-unopened (profile .view) untimed gs ∙ u)
+          ∙ sym (λ i. (bytesAt profile s fs ++ cancels (profile .view) (machineAt profile s fs .table)) ++ runBytes (profile .view) (profile .rules (e i)) (silent-machine q k i) (timedFrames (profile .untimed (e i)) hs)))
+
+  -- what a cancelled frame leaves of a stream
+  abbrev left : Stream S → Stream S
+  left s = record { settings = s .settings; machine = silenced; begun = true }
+
+  cancel-silences : (s : Stream S) (fs : List (Frame C)) (f : Frame C) (gs : List (Frame C)) → CancelledAfter profile s fs f → unopened (profile .view) gs ≡ true
+      → Since s fs (next profile s (frames (fs ++ (f ∷ gs)))) (wrote profile s (frames (fs ++ (f ∷ gs))))
+  unfolding next wrote runMachine runBytes timedFrames
+  cancel-silences s fs f gs v u =
+      let k : Silent (left s) = record { ignoring = refl; resting = refl } in
+      let e : fs ++ (f ∷ gs) ≡ fs ++ (f ∷ (gs ++ [])) = rw append-nil in
+      record {
+        silent = silent-by (next profile s (frames (fs ++ (f ∷ gs)))) (ap (machineAt profile s) e ∙ cancel-then-machine s fs f gs [] v u (left s) k refl);
+        own = ap (bytesAt profile s) e ∙ (cancel-then-bytes s fs f gs [] v u (left s) k refl ∙ append-nil _);
+      }
 
   no-frame : {P : Type 0} (fs gs : List (Frame C)) (f : Frame C) → [] ≡ fs ++ (f ∷ gs) → P
   no-frame fs gs f e = absurd (omega (arith, simp length-append at (ap length e)))
 
+  -- a message that has a frame is its frames
+  some-frames : (g : Given S C) (fs : List (Frame C)) (f : Frame C) (gs : List (Frame C)) → framesGiven g ≡ fs ++ (f ∷ gs) → g ≡ frames (fs ++ (f ∷ gs))
+  some-frames nothing fs f gs e = no-frame fs gs f e
+  some-frames (settings x) fs f gs e = no-frame fs gs f e
+  some-frames (dismissal id) fs f gs e = no-frame fs gs f e
+  some-frames (frames hs) fs f gs e = ap frames e
+
   cancel-next : (s : Stream S) (g : Given S C) (fs : List (Frame C)) (f : Frame C) (gs : List (Frame C)) → framesGiven g ≡ fs ++ (f ∷ gs) → CancelledAfter profile s fs f → unopened (profile .view) gs ≡ true
       → Since s fs (next profile s g) (wrote profile s g)
-  cancel-next s nothing fs f gs e v u = no-frame fs gs f e
-  cancel-next s (settings x) fs f gs e v u = no-frame fs gs f e
-  cancel-next s (dismissal id) fs f gs e v u = no-frame fs gs f e
-  cancel-next s (frames hs) fs f gs e v u = rw e (cancel-silences s fs f gs v u)
+  cancel-next s g fs f gs e v u = rw (some-frames g fs f gs e) (cancel-silences s fs f gs v u)
+
+  pub cancel-wrote : (s : Stream S) (g : Given S C) (fs : List (Frame C)) (f : Frame C) (gs hs : List (Frame C)) → framesGiven g ≡ fs ++ (f ∷ (gs ++ hs)) → CancelledAfter profile s fs f → unopened (profile .view) gs ≡ true
+      → (q : Stream S) → Silent q → q .settings ≡ s .settings
+      → wrote profile s g ≡ (bytesAt profile s fs ++ cancels (profile .view) (machineAt profile s fs .table)) ++ bytesAt profile q hs
+  unfolding wrote
+  cancel-wrote s g fs f gs hs e v u q k z = rw (some-frames g fs f (gs ++ hs) e) (cancel-then-bytes s fs f gs hs v u q k z)
 
   pub since-cancel : (s : Stream S) (g : Given S C) (more : List (Given S C)) (fs : List (Frame C)) (f : Frame C) (gs : List (Frame C)) → framesGiven g ≡ fs ++ (f ∷ gs) → CancelledAfter profile s fs f → unopened (profile .view) gs ≡ true
       → Unopened (profile .view) more → Since s fs (after profile s (g ∷ more)) (written profile s (g ∷ more))

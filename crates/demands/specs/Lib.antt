@@ -1,2 +1,3 @@
--- The demands on the whole, each over nothing but the contracts of the public calls.
+-- The three demands, each over nothing but the contracts of public calls.
 pub mod Refusing
+pub mod Histories

@@ -22,9 +22,9 @@ use Rattle.receiver.specs.declared.Receiver.{Receiver}
 use Rattle.receiver.specs.declared.Answer.{Answer}
 use Rattle.receiver.proofs.Records.{records-written}
 use Rattle.receiver.proofs.Invariants.{Kept, history-kept}
-use Rattle.receiver.proofs.Rested.{as-rested, at-rest}
-use Rattle.receiver.proofs.Histories.{a-step-of-the-contract-is-a-step-of-a-history, each-contact's-records-are-a-legal-path, after-a-cancelled-frame-nothing-until-an-opening-one, after-a-cancel-nothing-until-an-opening-frame, a-silent-receiver-passes-over-frames-that-do-not-open, a-rested-receiver-can-be-given-that-frame}
-use Rattle.demands.specs.Histories.{Call, Calls, last, recordsLeft, allLeft, accepted, NoneOpens, LegalPath, Cancel, Silenced, NothingUntilAnOpeningFrame, HaveRoom, sentBy, outcomeOf, AsRestedFromAnOpeningFrame, EveryHistory}
+use Rattle.receiver.proofs.Rested.{as-rested}
+use Rattle.receiver.proofs.Histories.{a-step-of-the-contract-is-a-step-of-a-history, each-contact's-records-are-a-legal-path, after-a-cancelled-frame-nothing-until-an-opening-one, after-a-cancel-nothing-until-an-opening-frame, a-silent-receiver-passes-over-frames-that-do-not-open, a-receiver-at-rest-is-the-rested-one, a-rested-receiver-can-be-given-that-frame}
+use Rattle.demands.specs.Histories.{Call, Calls, last, recordsLeft, allLeft, accepted, NoneOpens, LegalPath, Cancel, Silenced, NothingUntilAnOpeningFrame, AtRest, HaveRoom, sentBy, outcomeOf, AsRestedFromAnOpeningFrame, EveryHistory}
 
 -- ---- a call is a step of a history
 
@@ -111,10 +111,10 @@ legal-path h k id l =
     ∙ (each-contact's-records-are-a-legal-path id l (sent h) (calls-bytes fresh h k)
     ∙ ap (λ (q : Receiver). at (stateAt (tableOf q) id) (placeAt (tableOf q) id)) (sym (calls-last fresh h k)))
 
-silenced : (r : Receiver) (c : Call) (cs : List Call) → Calls r (c ∷ cs) → (fs : List (Frame Contact)) (f : Frame Contact) (gs : List (Frame Contact)) → Cancel r c fs f gs []
+calls-silenced : (r : Receiver) (c : Call) (cs : List Call) → Calls r (c ∷ cs) → (fs : List (Frame Contact)) (f : Frame Contact) (gs : List (Frame Contact)) → Cancel r c fs f gs []
     → NoneOpens (c .receiver) cs → Silenced r c cs fs
 unfolding Calls
-silenced r c cs k fs f gs e u =
+calls-silenced r c cs k fs f gs e u =
     let fewer : fs ++ (f ∷ (gs ++ [])) ≡ fs ++ (f ∷ gs) = rw append-nil in
     let n = subst (λ (q : Receiver). Unopened q (sent cs)) (call-receiver r c (k .1)) (calls-unopened (c .receiver) cs (k .2) u) in
     let o = after-a-cancel-nothing-until-an-opening-frame r (sentBy c) (sent cs) fs f gs (call-frames r c (k .1) ∙ (e .frames ∙ fewer)) (e .cancelled) (e .others) n in
@@ -132,7 +132,7 @@ nothing-until-an-opening-frame r =
     record {
       within = λ c k fs f gs hs e q s z.
           call-left r c (k .1) ∙ after-a-cancelled-frame-nothing-until-an-opening-one r (sentBy c) fs f gs hs (call-frames r c (k .1) ∙ e .frames) (e .cancelled) (e .others) q s z;
-      after = silenced r;
+      after = calls-silenced r;
     }
 
 as-rested-from-an-opening-frame : (r : Receiver) → Kept r → AsRestedFromAnOpeningFrame r
@@ -155,11 +155,16 @@ as-rested-from-an-opening-frame r kept =
       given = λ x k. a-rested-receiver-can-be-given-that-frame r (sentBy x) (k .0);
     }
 
+at-rest : (h : List Call) → Calls fresh h → AtRest (last fresh h) → last fresh h ≡ rested (last fresh h .settings)
+at-rest h k =
+    subst (λ (r : Receiver). AtRest r → r ≡ rested (r .settings)) (sym (calls-last fresh h k))
+    (λ a. a-receiver-at-rest-is-the-rested-one (sent h) (calls-bytes fresh h k) (a .ready) (a .begun) (a .running) (a .idle))
+
 pub every-history : EveryHistory
 every-history =
     record {
       legal = legal-path;
       silent = λ h k. nothing-until-an-opening-frame (last fresh h);
       asRested = λ h k. as-rested-from-an-opening-frame (last fresh h) (calls-kept h k);
-      rest = λ h k a. at-rest (last fresh h) (calls-kept h k) (a .ready) (a .begun) (a .running) (a .idle);
+      rest = at-rest;
     }

@@ -88,16 +88,24 @@ silent-machine : {S : Type 0} (s : Stream S) → Silent s → s .machine ≡ sil
 silent-machine s k = λ i. record { table = k .resting i; running = k .ignoring i }
 
 module _ {S C : Type 0} (profile : Profile S C) where
+  abbrev rulesIn : Stream S → Rules C
+  rulesIn s = profile .rules (s .settings)
+
+  abbrev untimedIn : Stream S → Bool
+  untimedIn s = profile .untimed (s .settings)
+
+  abbrev timedIn : Stream S → List (Frame C) → List (Frame C)
+  timedIn s fs = timedFrames (untimedIn s) fs
+
   next-quiet : (s : Stream S) (g : Given S C) → Silent s → unopened (profile .view) (framesGiven g) ≡ true → Nothing (next profile s g) (wrote profile s g)
   unfolding next wrote
   next-quiet s nothing k u = record { still = k; none = refl }
   next-quiet s (settings x) k u = record { still = record { ignoring = k .ignoring; resting = k .resting }; none = refl }
   next-quiet s (frames fs) k u =
-      let b = profile .untimed (s .settings) in
-      let v = timed-unopened (profile .view) b fs ∙ u in
+      let v = timed-unopened (profile .view) (untimedIn s) fs ∙ u in
       record {
-        still = silent-by (next profile s (frames fs)) (quiet-machine (profile .view) (profile .rules (s .settings)) (s .machine) (timedFrames b fs) (k .ignoring) v ∙ silent-machine s k);
-        none = quiet-bytes (profile .view) (profile .rules (s .settings)) (s .machine) (timedFrames b fs) (k .ignoring) v;
+        still = silent-by (next profile s (frames fs)) (quiet-machine (profile .view) (rulesIn s) (s .machine) (timedIn s fs) (k .ignoring) v ∙ silent-machine s k);
+        none = quiet-bytes (profile .view) (rulesIn s) (s .machine) (timedIn s fs) (k .ignoring) v;
       }
   next-quiet s (dismissal id) k u =
       let n : stateAt (s .machine .table) id ≡ hovering → ⊥ = λ h. omega (arith, ap (λ (t : Table). stateAt t id) (k .resting) ∙ resting-state id) in
@@ -125,22 +133,19 @@ module _ {S C : Type 0} (profile : Profile S C) where
   -- the first frames of a message, none of which opens
   module _ (s : Stream S) (gs hs : List (Frame C)) (k : Silent s) (u : unopened (profile .view) gs ≡ true) where
     abbrev front : List (Frame C)
-    front = timedFrames (profile .untimed (s .settings)) gs
+    front = timedIn s gs
 
     abbrev others : List (Frame C)
-    others = timedFrames (profile .untimed (s .settings)) hs
+    others = timedIn s hs
 
     front-unopened : unopened (profile .view) front ≡ true
-    front-unopened = timed-unopened (profile .view) (profile .untimed (s .settings)) gs ∙ u
-
-    abbrev held : Rules C
-    held = profile .rules (s .settings)
+    front-unopened = timed-unopened (profile .view) (untimedIn s) gs ∙ u
 
     front-bytes : bytesAt profile s (gs ++ hs) ≡ bytesAt profile s hs
     front-bytes =
-        ap (runBytes (profile .view) held (s .machine)) (timed-append (profile .untimed (s .settings)) gs hs)
-        ∙ (bytes-append (profile .view) held (s .machine) front others
-        ∙ rw (quiet-bytes (profile .view) held (s .machine) front (k .ignoring) front-unopened, quiet-machine (profile .view) held (s .machine) front (k .ignoring) front-unopened))
+        ap (runBytes (profile .view) (rulesIn s) (s .machine)) (timed-append (untimedIn s) gs hs)
+        ∙ (bytes-append (profile .view) (rulesIn s) (s .machine) front others
+        ∙ rw (quiet-bytes (profile .view) (rulesIn s) (s .machine) front (k .ignoring) front-unopened, quiet-machine (profile .view) (rulesIn s) (s .machine) front (k .ignoring) front-unopened))
 
     pub front-wrote : (g : Given S C) → framesGiven g ≡ gs ++ hs → wrote profile s g ≡ bytesAt profile s hs
     front-wrote g e = silent-wrote s g k ∙ (ap (bytesAt profile s) e ∙ front-bytes)
@@ -152,30 +157,24 @@ module _ {S C : Type 0} (profile : Profile S C) where
     pub own : bytes ≡ bytesAt profile s fs ++ cancels (profile .view) (machineAt profile s fs .table)
 
   module _ (s : Stream S) (fs : List (Frame C)) (f : Frame C) (gs hs : List (Frame C)) (v : CancelledAfter profile s fs f) (u : unopened (profile .view) gs ≡ true) where
-    abbrev untimed : Bool
-    untimed = profile .untimed (s .settings)
+    parts : timedIn s (fs ++ (f ∷ (gs ++ hs))) ≡ timedIn s fs ++ (timedFrame (untimedIn s) f ∷ (timedIn s gs ++ timedIn s hs))
+    parts = timed-append (untimedIn s) fs (f ∷ (gs ++ hs)) ∙ rw (timed-cons (untimedIn s) f (gs ++ hs), timed-append (untimedIn s) gs hs)
 
-    abbrev rules : Rules C
-    rules = profile .rules (s .settings)
-
-    parts : timedFrames untimed (fs ++ (f ∷ (gs ++ hs))) ≡ timedFrames untimed fs ++ (timedFrame untimed f ∷ (timedFrames untimed gs ++ timedFrames untimed hs))
-    parts = timed-append untimed fs (f ∷ (gs ++ hs)) ∙ rw (timed-cons untimed f (gs ++ hs), timed-append untimed gs hs)
-
-    cancelled-there : verdict (profile .view) rules (machineAt profile s fs) (timedFrame untimed f .contacts) ≡ cancelled
-    cancelled-there = ap (verdict (profile .view) rules (machineAt profile s fs)) (timed-contacts untimed f) ∙ v
+    cancelled-there : verdict (profile .view) (rulesIn s) (machineAt profile s fs) (timedFrame (untimedIn s) f .contacts) ≡ cancelled
+    cancelled-there = ap (verdict (profile .view) (rulesIn s) (machineAt profile s fs)) (timed-contacts (untimedIn s) f) ∙ v
 
     -- the frames after those that do not open are as to any silent stream with these settings
     module _ (q : Stream S) (k : Silent q) (e : q .settings ≡ s .settings) where
       cancel-then-machine : machineAt profile s (fs ++ (f ∷ (gs ++ hs))) ≡ machineAt profile q hs
       cancel-then-machine =
-          ap (runMachine (profile .view) rules (s .machine)) parts
-          ∙ (cancel-machine (profile .view) rules (s .machine) (timedFrames untimed fs) (timedFrame untimed f) (timedFrames untimed gs) (timedFrames untimed hs) cancelled-there (timed-unopened (profile .view) untimed gs ∙ u)
+          ap (runMachine (profile .view) (rulesIn s) (s .machine)) parts
+          ∙ (cancel-machine (profile .view) (rulesIn s) (s .machine) (timedIn s fs) (timedFrame (untimedIn s) f) (timedIn s gs) (timedIn s hs) cancelled-there (timed-unopened (profile .view) (untimedIn s) gs ∙ u)
           ∙ sym (λ i. runMachine (profile .view) (profile .rules (e i)) (silent-machine q k i) (timedFrames (profile .untimed (e i)) hs)))
 
       cancel-then-bytes : bytesAt profile s (fs ++ (f ∷ (gs ++ hs))) ≡ (bytesAt profile s fs ++ cancels (profile .view) (machineAt profile s fs .table)) ++ bytesAt profile q hs
       cancel-then-bytes =
-          ap (runBytes (profile .view) rules (s .machine)) parts
-          ∙ (cancel-bytes (profile .view) rules (s .machine) (timedFrames untimed fs) (timedFrame untimed f) (timedFrames untimed gs) (timedFrames untimed hs) cancelled-there (timed-unopened (profile .view) untimed gs ∙ u)
+          ap (runBytes (profile .view) (rulesIn s) (s .machine)) parts
+          ∙ (cancel-bytes (profile .view) (rulesIn s) (s .machine) (timedIn s fs) (timedFrame (untimedIn s) f) (timedIn s gs) (timedIn s hs) cancelled-there (timed-unopened (profile .view) (untimedIn s) gs ∙ u)
           ∙ sym (λ i. (bytesAt profile s fs ++ cancels (profile .view) (machineAt profile s fs .table)) ++ runBytes (profile .view) (profile .rules (e i)) (silent-machine q k i) (timedFrames (profile .untimed (e i)) hs)))
 
   -- what a cancelled frame leaves of a stream

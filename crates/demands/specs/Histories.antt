@@ -7,7 +7,7 @@ use mathlib.Core.Path.{_≡_}
 use mathlib.Core.Bool.{true, false, cond}
 use mathlib.Core.List.{List, [], _∷_, _++_, map}
 use lib.Dec.{eqb}
-use lib.ListN.{length, take}
+use lib.ListN.{take}
 use Rattle.paper.specs.Refusals.{none, noRoom}
 use Rattle.paper.specs.declared.Milliseconds.{Milliseconds}
 use Rattle.digits.specs.Digits.{Bytes}
@@ -23,7 +23,7 @@ use Rattle.stream.specs.Stream.{opens, unopened, NoneActive}
 use Rattle.stream.specs.Path.{at}
 use Rattle.stream.specs.Asked.{All}
 use Rattle.receiver.specs.Receive.{off, fresh, Receives}
-use Rattle.receiver.specs.History.{Sent, Outcome, tableOf, touchIn, framesOf, machineAt, bytesAt, CancelledAfter, Silent, rested, messageOf, Cut, recordsIn, path}
+use Rattle.receiver.specs.History.{Outcome, tableOf, touchIn, framesOf, machineAt, bytesAt, CancelledAfter, Silent, rested, messageOf, Cut, recordsIn, path}
 use Rattle.receiver.specs.declared.Receiver.{Receiver}
 use Rattle.receiver.specs.declared.Answer.{Answer}
 
@@ -37,10 +37,15 @@ pub record Call : Type 0 where
   pub answer : Answer
   pub after : List ℕ
 
--- calls one after the other, the first of them with the receiver r: each message is of bytes, and the contract allows each call
+-- calls one after the other, the first of them with the receiver r: the contract allows each
 unfoldable pub Calls : Receiver → List Call → Type 0
 Calls r [] = Unit
-Calls r (c ∷ cs) = Bytes (c .message) × Receives r (c .message) (c .before) (c .receiver) (c .answer) (c .after) × Calls (c .receiver) cs
+Calls r (c ∷ cs) = Receives r (c .message) (c .before) (c .receiver) (c .answer) (c .after) × Calls (c .receiver) cs
+
+-- a fresh receiver's calls, whose messages are lists of bytes
+pub record History (h : List Call) : Type 0 where
+  pub calls : Calls fresh h
+  pub bytes : All (λ c. Bytes (c .message)) h
 
 -- the receiver that they leave
 unfoldable pub last : Receiver → List Call → Receiver
@@ -112,9 +117,6 @@ pub record AtRest (r : Receiver) : Type 0 where
 abbrev pub HaveRoom : List Call → Type 0
 HaveRoom cs = All (λ c. c .answer .refusal ≡ noRoom → ⊥) cs
 
-abbrev pub sentBy : Call → Sent
-sentBy c = record { message = c .message; room = length (c .before) }
-
 -- the receiver, the contact table in it, the answer and the records of a call
 abbrev pub outcomeOf : Call → Outcome
 outcomeOf c = record { receiver = c .receiver; answer = c .answer; bytes = recordsLeft c }
@@ -129,21 +131,20 @@ pub record SameFromThere (r : Receiver) (x y : Call) (fs : List (Frame Contact))
 pub record AsRestedFromAnOpeningFrame (r : Receiver) : Type 0 where
   -- the call x has the opening frame f after fs and before gs, and no contact is active before it; the rested receiver is given y, which begins
   -- with f; and then both are given the same messages
-  pub same : (x y : Call) (more others : List Call) → Calls r (x ∷ more) → Calls (rested (r .settings)) (y ∷ others)
-      → (fs : List (Frame Contact)) (f : Frame Contact) (gs : List (Frame Contact)) → Cut r (sentBy x) (sentBy y) fs f gs
+  pub same : (x y : Call) (more others : List Call) → Calls r (x ∷ more) → Calls (rested (r .settings)) (y ∷ others) → Bytes (x .message)
+      → (fs : List (Frame Contact)) (f : Frame Contact) (gs : List (Frame Contact)) → Cut r (x .message) (y .message) fs f gs
       → opens touchView f ≡ true → NoneActive (machineAt r fs .table)
       → map (λ (c : Call). c .message) more ≡ map (λ (c : Call). c .message) others → HaveRoom (x ∷ more) → HaveRoom (y ∷ others)
       → SameFromThere r x y fs more others
-  -- there always is such a message for y, whatever room it is lent
-  pub given : (x : Call) → Calls r (x ∷ []) → (time : Milliseconds) (fs : List (Frame Contact)) (f : Frame Contact) (gs : List (Frame Contact))
-      → touchIn r (x .message) ≡ got (record { time = time; frames = fs ++ (f ∷ gs) }) []
-      → (room : ℕ) → Cut r (sentBy x) (record { message = messageOf (record { time = time; frames = f ∷ gs }); room = room }) fs f gs
+  -- there always is such a message for y
+  pub given : (l : List ℕ) → Bytes l → (time : Milliseconds) (fs : List (Frame Contact)) (f : Frame Contact) (gs : List (Frame Contact))
+      → touchIn r l ≡ got (record { time = time; frames = fs ++ (f ∷ gs) }) [] → Cut r l (messageOf (record { time = time; frames = f ∷ gs })) fs f gs
 
--- ---- THE DEMAND: of every history, the calls h with a fresh receiver
+-- ---- THE DEMAND
 
 pub record EveryHistory : Type 0 where
-  pub legal : (h : List Call) → Calls fresh h → (id : ℕ) → id < contacts → LegalPath h id
-  pub silent : (h : List Call) → Calls fresh h → NothingUntilAnOpeningFrame (last fresh h)
-  pub asRested : (h : List Call) → Calls fresh h → AsRestedFromAnOpeningFrame (last fresh h)
+  pub legal : (h : List Call) → History h → (id : ℕ) → id < contacts → LegalPath h id
+  pub silent : (h : List Call) → History h → NothingUntilAnOpeningFrame (last fresh h)
+  pub asRested : (h : List Call) → History h → AsRestedFromAnOpeningFrame (last fresh h)
   -- and the rested receiver is the one that document 01 says
-  pub rest : (h : List Call) → Calls fresh h → AtRest (last fresh h) → last fresh h ≡ rested (last fresh h .settings)
+  pub rest : (h : List Call) → History h → AtRest (last fresh h) → last fresh h ≡ rested (last fresh h .settings)

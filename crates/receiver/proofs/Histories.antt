@@ -147,17 +147,17 @@ a-receiver-at-rest-is-the-rested-one h b = at-rest (after fresh h) (history-kept
 -- r is the receiver after any history. Its next message x has the opening frame f, before which no contact is active, in either mode; the
 -- rested receiver gets y instead, which begins with f; then both get the same messages, each lent whatever room.
 pub from-an-opening-frame-as-if-rested : (h : List Sent) → OfBytes h → let r : Receiver = after fresh h in
-    (x y : Sent) → Bytes (x .message) → (fs : List (Frame Contact)) (f : Frame Contact) (gs : List (Frame Contact)) → Cut r x y fs f gs → opens touchView f ≡ true → NoneActive (machineAt r fs .table)
+    (x y : Sent) → Bytes (x .message) → (fs : List (Frame Contact)) (f : Frame Contact) (gs : List (Frame Contact)) → Cut r (x .message) (y .message) fs f gs → opens touchView f ≡ true → NoneActive (machineAt r fs .table)
     → (more others : List Sent) → messagesOf more ≡ messagesOf others → Roomy r (x ∷ more) → Roomy (rested (r .settings)) (y ∷ others)
     → AsRested r x y fs more others
 from-an-opening-frame-as-if-rested h b = as-rested (after fresh h) (history-kept h b)
 
--- There always is such a y: the message of the same encodeTime and the frames from f on.
-pub a-rested-receiver-can-be-given-that-frame : (r : Receiver) (x : Sent) → Bytes (x .message) → (time : Milliseconds) (fs : List (Frame Contact)) (f : Frame Contact) (gs : List (Frame Contact))
-    → touchIn r (x .message) ≡ got (record { time = time; frames = fs ++ (f ∷ gs) }) []
-    → (room : ℕ) → Cut r x (record { message = messageOf (record { time = time; frames = f ∷ gs }); room = room }) fs f gs
-a-rested-receiver-can-be-given-that-frame r x b time fs f gs e room =
-    record { time = time; whole = e; part = rest-of-message r (x .message) b time fs (f ∷ gs) e }
+-- There always is such a message for y: of the same encodeTime and the frames from f on.
+pub a-rested-receiver-can-be-given-that-frame : (r : Receiver) (l : List ℕ) → Bytes l → (time : Milliseconds) (fs : List (Frame Contact)) (f : Frame Contact) (gs : List (Frame Contact))
+    → touchIn r l ≡ got (record { time = time; frames = fs ++ (f ∷ gs) }) []
+    → Cut r l (messageOf (record { time = time; frames = f ∷ gs })) fs f gs
+a-rested-receiver-can-be-given-that-frame r l b time fs f gs e =
+    record { time = time; whole = e; part = rest-of-message r l b time fs (f ∷ gs) e }
 
 -- ---- "REFUSED ONES AMONG THEM"
 

@@ -176,7 +176,7 @@ time-same : (r : Receiver) (m n : Touch) → m .time ≡ n .time → touched r m
 unfolding touched rested
 time-same r m n e = ap (timeBy (untimed r)) e
 
-module _ (r : Receiver) (k : Kept r) (x y : Sent) (b : Bytes (x .message)) (fs : List (Frame Contact)) (f : Frame Contact) (gs : List (Frame Contact)) (c : Cut r x y fs f gs) (o : opens touchView f ≡ true)
+module _ (r : Receiver) (k : Kept r) (x y : Sent) (b : Bytes (x .message)) (fs : List (Frame Contact)) (f : Frame Contact) (gs : List (Frame Contact)) (c : Cut r (x .message) (y .message) fs f gs) (o : opens touchView f ≡ true)
     (idle : NoneActive (machineAt r fs .table)) where
   abbrev whole : Touch
   whole = record { time = c .time; frames = fs ++ (f ∷ gs) }

@@ -141,11 +141,11 @@ abbrev pub messageOf : Touch → List ℕ
 messageOf m = writeMessage touch (format.touch taken false) m
 
 -- "Where demand 3's opening frame is inside a message, the rested receiver gets a message of the same encodeTime that begins with that
--- frame": x has the frame f after fs and before gs, and y begins with it
-pub record Cut (r : Receiver) (x y : Sent) (fs : List (Frame Contact)) (f : Frame Contact) (gs : List (Frame Contact)) : Type 0 where
+-- frame": the message l has the frame f after fs and before gs, and the message k begins with it
+pub record Cut (r : Receiver) (l k : List ℕ) (fs : List (Frame Contact)) (f : Frame Contact) (gs : List (Frame Contact)) : Type 0 where
   pub time : Milliseconds
-  pub whole : touchIn r (x .message) ≡ got (record { time = time; frames = fs ++ (f ∷ gs) }) []
-  pub part : touchIn (rested (r .settings)) (y .message) ≡ got (record { time = time; frames = f ∷ gs }) []
+  pub whole : touchIn r l ≡ got (record { time = time; frames = fs ++ (f ∷ gs) }) []
+  pub part : touchIn (rested (r .settings)) k ≡ got (record { time = time; frames = f ∷ gs }) []
 
 -- "records are compared from that frame on": the receiver r given x and `more` is, but for the frames before f, the rested one given y and
 -- `others`

@@ -1,3 +1,4 @@
 -- The three demands, each over nothing but the contracts of public calls.
 pub mod Refusing
+pub mod RoundTrip
 pub mod Histories

@@ -9,6 +9,7 @@ use lib.ListN.{length, take, drop}
 use lib.Seq.{take-at}
 use Rattle.paper.specs.Refusals.{none}
 use Rattle.digits.specs.Digits.{Bytes}
+use Rattle.slices.specs.Writing.{laid}
 use Rattle.house.specs.Fields.{recordBytes}
 use Rattle.house.specs.declared.Contact.{Contact}
 use Rattle.framing.specs.Frame.{Frame}
@@ -37,18 +38,20 @@ abbrev Allowed : Receiver → Call → Type 0
 Allowed r c = Receives r (c .message) (c .before) (c .receiver) (c .answer) (c .after)
 
 module _ (r : Receiver) (c : Call) (k : Allowed r c) where
+  call-step : (c .receiver ≡ next r (sentBy c)) × (c .answer ≡ answerTo r (sentBy c)) × (c .after ≡ laid (c .before) (wrote r (sentBy c)))
+  call-step = a-step-of-the-contract-is-a-step-of-a-history r (c .message) (c .before) (c .receiver) (c .answer) (c .after) k
+
   call-receiver : c .receiver ≡ next r (sentBy c)
-  call-receiver = a-step-of-the-contract-is-a-step-of-a-history r (c .message) (c .before) (c .receiver) (c .answer) (c .after) k .0
+  call-receiver = call-step .0
 
   call-answer : c .answer ≡ answerTo r (sentBy c)
-  call-answer = a-step-of-the-contract-is-a-step-of-a-history r (c .message) (c .before) (c .receiver) (c .answer) (c .after) k .1
+  call-answer = call-step .1
 
   call-left : recordsLeft c ≡ wrote r (sentBy c)
   unfolding recordsLeft
   call-left =
-      let o = a-step-of-the-contract-is-a-step-of-a-history r (c .message) (c .before) (c .receiver) (c .answer) (c .after) k .2 in
       let s = wrote r (sentBy c) in
-      (λ i. take (recordBytes * call-answer i .records) (o i))
+      (λ i. take (recordBytes * call-answer i .records) (call-step .2 i))
       ∙ take-at s (drop (length s) (c .before)) (recordBytes * answerTo r (sentBy c) .records) (sym (records-written r (sentBy c)))
 
   call-frames : framesTaken r (sentBy c) ≡ accepted r c
@@ -135,7 +138,7 @@ unfolding Calls
 nothing-until-an-opening-frame r =
     record {
       within = λ c k fs f gs hs e q s z.
-          call-left r c (k .0) ∙ after-a-cancelled-frame-nothing-until-an-opening-one r (sentBy c) fs f gs hs (call-frames r c (k .0) ∙ e .frames) (e .cancelled) (e .others) q s z;
+          call-left r c (k .0) ∙ after-a-cancelled-frame-nothing-until-an-opening-one r (sentBy c) fs f gs hs (call-frames r c (k .0) ∙ e .frames) (e .cancelled) (e .others) q s z .0;
       after = calls-silenced r;
     }
 

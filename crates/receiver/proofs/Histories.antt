@@ -26,12 +26,12 @@ use Rattle.stream.proofs.Steadiness.{none-active-rests}
 use Rattle.stream.proofs.Quiet.{quiet-bytes, quiet-machine}
 use Rattle.stream.proofs.Demand.{a-silent-stream-writes-nothing-until-an-opening-frame, a-silent-stream-passes-over-frames-that-do-not-open}
 use Rattle.stream.proofs.Demand as demand
-use Rattle.receiver.specs.Receive.{off, fresh, effect, draftOf, Receives}
+use Rattle.receiver.specs.Receive.{off, machineOf, fresh, effect, draftOf, Receives}
 use Rattle.receiver.specs.declared.Receiver.{Receiver}
 use Rattle.receiver.specs.declared.Answer.{Answer}
 use Rattle.receiver.specs.History.{Sent, OfBytes, messagesOf, next, answerTo, wrote, after, written, Roomy, tableOf, touchIn, framesTaken, Unopened, rested, machineAt, bytesAt, messageOf, Cut, AsRested, CancelledAfter, Silent, recordsIn, path, touchProfile, streamOf}
 use Rattle.receiver.proofs.Lawful.{touch-law}
-use Rattle.receiver.proofs.Streaming.{givenBy, givens, given-frames, stream-wrote, stream-after, stream-written, givens-unopened}
+use Rattle.receiver.proofs.Streaming.{givenBy, givens, given-frames, stream-next, stream-wrote, stream-after, stream-written, givens-unopened}
 use Rattle.receiver.proofs.Invariants.{fresh-kept, history-kept, givens-proper, answer-counts}
 use Rattle.receiver.proofs.Rested.{at-rest, as-rested}
 use Rattle.receiver.proofs.Cutting.{rest-of-message}
@@ -103,13 +103,14 @@ pub frames-that-do-not-open-are-ignored : (rules : Rules Contact) (m : Machine) 
 frames-that-do-not-open-are-ignored rules m fs h u = (quiet-bytes touchView rules m fs h u, quiet-machine touchView rules m fs h u)
 
 -- Within a message: after the frames fs, the cancelled frame f writes its records; the frames gs, none of which opens, write nothing; and the
--- frames hs after them write what they do to any silent receiver with the same settings.
+-- frames hs after them write and leave what they do to any silent receiver with the same settings.
 pub after-a-cancelled-frame-nothing-until-an-opening-one : (r : Receiver) (x : Sent) (fs : List (Frame Contact)) (f : Frame Contact) (gs hs : List (Frame Contact))
     → framesTaken r x ≡ fs ++ (f ∷ (gs ++ hs)) → CancelledAfter r fs f → unopened touchView gs ≡ true
     → (q : Receiver) → Silent q → q .settings ≡ r .settings
-    → wrote r x ≡ (bytesAt r fs ++ cancels touchView (machineAt r fs .table)) ++ bytesAt q hs
+    → (wrote r x ≡ (bytesAt r fs ++ cancels touchView (machineAt r fs .table)) ++ bytesAt q hs) × (machineOf (next r x) ≡ machineAt q hs)
 after-a-cancelled-frame-nothing-until-an-opening-one r x fs f gs hs e v u q k z =
-    stream-wrote r x ∙ demand.after-a-cancelled-frame-nothing-until-an-opening-one touchProfile (streamOf r) (givenBy r x) fs f gs hs (given-frames r x ∙ e) v u (streamOf q) k z
+    let a = demand.after-a-cancelled-frame-nothing-until-an-opening-one touchProfile (streamOf r) (givenBy r x) fs f gs hs (given-frames r x ∙ e) v u (streamOf q) k z in
+    (stream-wrote r x ∙ a .0, ap (λ (s : Stream Ready). s .machine) (stream-next r x) ∙ a .1)
 
 -- Over messages: a receiver that ignores and has no active contact writes nothing, dismissals included, and stays so, as long as no opening
 -- frame is accepted.

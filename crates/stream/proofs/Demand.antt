@@ -17,7 +17,7 @@ use Rattle.stream.specs.Path.{Seen, recordsIn, path, at}
 use Rattle.stream.specs.Asked.{Laws, All, FrameFits, AllProper}
 use Rattle.stream.proofs.Steadiness.{none-active-rests, resting-steady}
 use Rattle.stream.proofs.Kept.{Kept, all-front, frames-kept, next-kept}
-use Rattle.stream.proofs.Quiet.{after-quiet, front-wrote, cancel-wrote, since-cancel}
+use Rattle.stream.proofs.Quiet.{after-quiet, front-wrote, cancel-wrote, cancel-left, since-cancel}
 use Rattle.stream.proofs.Rested.{rested-from}
 use Rattle.stream.proofs.Paths.{moves-path, written-leads}
 
@@ -61,12 +61,14 @@ module _ {S C : Type 0} (profile : Profile S C) where
   a-silent-stream-passes-over-frames-that-do-not-open s g gs hs k e u = front-wrote profile s gs hs k u g e
 
   -- Of a message with the frames fs, f, gs, hs, where f is cancelled and none of gs opens: the records of fs, the cancel's own, and then what hs
-  -- write to any silent stream with the same settings.
+  -- write to any silent stream with the same settings; and it leaves what they leave of that one.
   pub after-a-cancelled-frame-nothing-until-an-opening-one : (s : Stream S) (g : Given S C) (fs : List (Frame C)) (f : Frame C) (gs hs : List (Frame C))
       → framesGiven g ≡ fs ++ (f ∷ (gs ++ hs)) → CancelledAfter profile s fs f → unopened (profile .view) gs ≡ true
       → (q : Stream S) → Silent q → q .settings ≡ s .settings
-      → wrote profile s g ≡ (bytesAt profile s fs ++ cancels (profile .view) (machineAt profile s fs .table)) ++ bytesAt profile q hs
-  after-a-cancelled-frame-nothing-until-an-opening-one = cancel-wrote profile
+      → (wrote profile s g ≡ (bytesAt profile s fs ++ cancels (profile .view) (machineAt profile s fs .table)) ++ bytesAt profile q hs)
+      × (next profile s g .machine ≡ machineAt profile q hs)
+  after-a-cancelled-frame-nothing-until-an-opening-one s g fs f gs hs e v u q k z =
+      (cancel-wrote profile s g fs f gs hs e v u q k z, cancel-left profile s g fs f gs hs e v u q k z)
 
   -- Of a message with the frames fs, f, gs, where f is cancelled and none of gs opens, and of all messages after it, as long as no opening frame is
   -- accepted, nothing is written but the records of fs and the cancel's own.

@@ -206,11 +206,15 @@ module _ {S C : Type 0} (profile : Profile S C) where
       → Since s fs (next profile s g) (wrote profile s g)
   cancel-next s g fs f gs e v u = rw (some-frames g fs f gs e) (cancel-silences s fs f gs v u)
 
-  pub cancel-wrote : (s : Stream S) (g : Given S C) (fs : List (Frame C)) (f : Frame C) (gs hs : List (Frame C)) → framesGiven g ≡ fs ++ (f ∷ (gs ++ hs)) → CancelledAfter profile s fs f → unopened (profile .view) gs ≡ true
-      → (q : Stream S) → Silent q → q .settings ≡ s .settings
-      → wrote profile s g ≡ (bytesAt profile s fs ++ cancels (profile .view) (machineAt profile s fs .table)) ++ bytesAt profile q hs
-  unfolding wrote
-  cancel-wrote s g fs f gs hs e v u q k z = rw (some-frames g fs f (gs ++ hs) e) (cancel-then-bytes s fs f gs hs v u q k z)
+  module _ (s : Stream S) (g : Given S C) (fs : List (Frame C)) (f : Frame C) (gs hs : List (Frame C)) (e : framesGiven g ≡ fs ++ (f ∷ (gs ++ hs))) (v : CancelledAfter profile s fs f) (u : unopened (profile .view) gs ≡ true)
+      (q : Stream S) (k : Silent q) (z : q .settings ≡ s .settings) where
+    pub cancel-wrote : wrote profile s g ≡ (bytesAt profile s fs ++ cancels (profile .view) (machineAt profile s fs .table)) ++ bytesAt profile q hs
+    unfolding wrote
+    cancel-wrote = rw (some-frames g fs f (gs ++ hs) e) (cancel-then-bytes s fs f gs hs v u q k z)
+
+    pub cancel-left : next profile s g .machine ≡ machineAt profile q hs
+    unfolding next
+    cancel-left = rw (some-frames g fs f (gs ++ hs) e) (cancel-then-machine s fs f gs hs v u q k z)
 
   pub since-cancel : (s : Stream S) (g : Given S C) (more : List (Given S C)) (fs : List (Frame C)) (f : Frame C) (gs : List (Frame C)) → framesGiven g ≡ fs ++ (f ∷ gs) → CancelledAfter profile s fs f → unopened (profile .view) gs ≡ true
       → Unopened (profile .view) more → Since s fs (after profile s (g ∷ more)) (written profile s (g ∷ more))

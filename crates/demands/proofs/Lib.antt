@@ -1,3 +1,4 @@
 pub mod Refusals
 pub mod RoundTrip
 pub mod Histories
+pub mod Whole

@@ -51,7 +51,7 @@ read-as : (message : List ℕ) (a : PlainAnswer) (before after : List ℕ) (x : 
 read-as message a before after x d h e g =
     (h .answer ∙ (λ i. plain.answered (timeOf (e i)) (given (length before) (draftOf (e i)))) ∙ ap (plain.answered (timeOf x)) g, h .output ∙ (λ i. left before (given (length before) (draftOf (e i)))) ∙ ap (left before) g)
 
-judged : (message : List ℕ) (a : PlainAnswer) (before after : List ℕ) → ReadsPlainly message a before after → Judged message a before after
+pub judged : (message : List ℕ) (a : PlainAnswer) (before after : List ℕ) → ReadsPlainly message a before after → Judged message a before after
 judged message a before after h =
     record {
       accepts = λ m t e room.
@@ -66,6 +66,15 @@ judged message a before after h =
           let r = read-as message a before after (bad n) (refuse n) h e (given-refuse n (length before)) in
           record { answer = r .0; output = r .1 };
     }
+
+-- the records answered stand at the front of the output
+pub read-front : (time : Milliseconds) (fs : List (Frame Contact)) (a : PlainAnswer) (before after : List ℕ) → Read time (framesBytes touchRecord fs) a before after
+    → take (recordBytes * a .records) after ≡ framesBytes touchRecord fs
+read-front time fs a before after h =
+    let s = framesBytes touchRecord fs in
+    let count : a .records ≡ length s / recordBytes = ap (λ (v : PlainAnswer). v .records) (h .answer) in
+    let long : length s ≡ recordBytes * a .records = omega (arith, count, length-frames fs) in
+    ap (take (recordBytes * a .records)) (h .output) ∙ take-at s (drop (length s) before) (recordBytes * a .records) long
 
 -- what it accepted, it read and had room for
 record Accepted (message : List ℕ) (a : PlainAnswer) (before after : List ℕ) : Type 0 where
@@ -173,11 +182,8 @@ written-back : (message : List ℕ) (a : PlainAnswer) (before after : List ℕ) 
 written-back message a before after w out₀ out₁ hm h z k room =
     let x = accepted message a before after h z in
     let m = x .content in
-    let s = framesBytes touchRecord (m .frames) in
     let time : a .time ≡ m .time = ap (λ (v : PlainAnswer). v .time) (x .outcome .answer) in
-    let count : a .records ≡ length s / recordBytes = ap (λ (v : PlainAnswer). v .records) (x .outcome .answer) in
-    let long : length s ≡ recordBytes * a .records = omega (arith, count, length-frames (m .frames)) in
-    let records : take (recordBytes * a .records) after ≡ s = ap (take (recordBytes * a .records)) (x .outcome .output) ∙ take-at s (drop (length s) before) (recordBytes * a .records) long in
+    let records = read-front (m .time) (m .frames) a before after (x .outcome) in
     let draft = (λ i. touchDraft (time i) (records i)) ∙ accepted-is-written-back-to-the-same-bytes message m (x .rest) hm (x .read) in
     wrote-room (touchDraft (a .time) (take (recordBytes * a .records) after)) message w out₀ out₁ draft k room
 

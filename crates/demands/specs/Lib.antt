@@ -2,3 +2,4 @@
 pub mod Refusing
 pub mod RoundTrip
 pub mod Histories
+pub mod Whole

@@ -6,3 +6,4 @@ pub mod Reading
 pub mod Tail
 pub mod Begun
 pub mod Least
+pub mod Whole

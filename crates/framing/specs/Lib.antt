@@ -1,3 +1,4 @@
 -- Frames of contacts, over any contact.
 pub mod Frame
 pub mod Format
+pub mod Whole

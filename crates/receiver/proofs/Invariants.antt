@@ -14,11 +14,11 @@ use Rattle.messages.specs.Header.{headerBytes}
 use Rattle.messages.specs.declared.Ready.{Ready}
 use Rattle.formats.specs.Format.{got}
 use Rattle.fields.specs.Integers.{taken}
-use Rattle.house.specs.Fits.{ContactFits}
 use Rattle.house.specs.declared.Contact.{Contact}
 use Rattle.house.proofs.WellFormed.{never}
 use Rattle.framing.specs.Frame.{Frame, begunBy}
 use Rattle.touch.specs.Touch.{Touch, body}
+use Rattle.touch.proofs.Ranges.{ContactRead}
 use Rattle.machine.specs.Table.{resting}
 use Rattle.stream.specs.Stream.{Stream}
 use Rattle.stream.specs.Asked.{All, FrameFits, Proper, AllProper}
@@ -31,8 +31,8 @@ use Rattle.receiver.specs.declared.Answer.{Answer}
 use Rattle.receiver.specs.Receive.{off, mark, machineOf, fresh, touched, judged}
 use Rattle.receiver.specs.History.{Sent, OfBytes, next, answerTo, after, tableOf, framesTaken, touchProfile, streamOf, machineAt}
 use Rattle.receiver.proofs.Became.{Became, became, refused, settles, touches, dismisses}
-use Rattle.receiver.proofs.Fitting.{body-fits}
-use Rattle.receiver.proofs.Lawful.{OneOfThree, PlaceFits, touch-law}
+use Rattle.receiver.proofs.Fitting.{body-read}
+use Rattle.receiver.proofs.Lawful.{OneOfThree, PlaceFits, Fits, read-fits, touch-law}
 use Rattle.receiver.proofs.Streaming.{fromBecame, givenBy, givens, stream-next}
 
 -- ---- what every message keeps
@@ -61,12 +61,23 @@ fresh-kept =
       unready = λ e. refl;
     }
 
--- the frames of a message that a receiver reads fit its records
-pub message-fits : (r : Receiver) (l : List ℕ) (m : Touch) (t : List ℕ) → Bytes l → body taken (judged r) (drop headerBytes l) ≡ got m t → All (FrameFits ContactFits) (m .frames)
-message-fits r l m t hl e = body-fits (judged r) (drop headerBytes l) m t (bytes-drop headerBytes l hl) e
+-- the frames of a message that a receiver reads, and that they fit its records
+pub message-read : (r : Receiver) (l : List ℕ) (m : Touch) (t : List ℕ) → Bytes l → body taken (judged r) (drop headerBytes l) ≡ got m t → All (FrameFits ContactRead) (m .frames)
+message-read r l m t hl e = body-read (judged r) (drop headerBytes l) m t (bytes-drop headerBytes l hl) e
+
+contacts-fit : (cs : List Contact) → All ContactRead cs → All Fits cs
+contacts-fit [] h = tt
+contacts-fit (c ∷ cs) h = (read-fits c (h .0), contacts-fit cs (h .1))
+
+pub frames-fit : (fs : List (Frame Contact)) → All (FrameFits ContactRead) fs → All (FrameFits Fits) fs
+frames-fit [] h = tt
+frames-fit (f ∷ fs) h = (record { head = h .0 .head; contacts = contacts-fit (f .contacts) (h .0 .contacts) }, frames-fit fs (h .1))
+
+pub message-fits : (r : Receiver) (l : List ℕ) (m : Touch) (t : List ℕ) → Bytes l → body taken (judged r) (drop headerBytes l) ≡ got m t → All (FrameFits Fits) (m .frames)
+message-fits r l m t hl e = frames-fit (m .frames) (message-read r l m t hl e)
 
 -- a message asks of the stream nothing but what is proper
-became-proper : (r : Receiver) (l : List ℕ) {q : Receiver} {s : List ℕ} {a : Answer} {fs : List (Frame Contact)} → Bytes l → Kept r → (b : Became r l q s a fs) → Proper ContactFits (streamOf r) (fromBecame b)
+became-proper : (r : Receiver) (l : List ℕ) {q : Receiver} {s : List ℕ} {a : Answer} {fs : List (Frame Contact)} → Bytes l → Kept r → (b : Became r l q s a fs) → Proper Fits (streamOf r) (fromBecame b)
 became-proper r l hl k (refused n) = tt
 became-proper r l hl k (settles s o) = k .unready o
 became-proper r l hl k (touches m t o e) = message-fits r l m t hl e
@@ -120,11 +131,11 @@ pub mark-one : (n : ℕ) → n ≤ 1 → off n ≡ false → n ≡ 1
 mark-one n h o = omega (arith, eqb-false n 0 o)
 
 -- all that a history is to the stream is proper
-pub givens-proper : (r : Receiver) (h : List Sent) → OfBytes h → Kept r → AllProper touchProfile ContactFits (streamOf r) (givens r h)
+pub givens-proper : (r : Receiver) (h : List Sent) → OfBytes h → Kept r → AllProper touchProfile Fits (streamOf r) (givens r h)
 unfolding AllProper givens
 givens-proper r [] b k = tt
 givens-proper r (x ∷ h) b k =
-    (became-proper r (x .message) (b .0) k (became r x), subst (λ (s : Stream Ready). AllProper touchProfile ContactFits s (givens (next r x) h)) (stream-next r x) (givens-proper (next r x) h (b .1) (next-kept r x (b .0) k)))
+    (became-proper r (x .message) (b .0) k (became r x), subst (λ (s : Stream Ready). AllProper touchProfile Fits s (givens (next r x) h)) (stream-next r x) (givens-proper (next r x) h (b .1) (next-kept r x (b .0) k)))
 
 -- ---- the counts of a message
 

@@ -12,12 +12,15 @@ use Rattle.states.specs.Table.{table, placeOf, unlisted, from, out, hovering, e
 use Rattle.tables.proofs.Below.{below}
 use Rattle.states.proofs.Rule.{entries, rule, no-state, no-row}
 use Rattle.house.specs.Twos.{Holds}
+use Rattle.house.specs.WellFormed.{above, placeWell, contactWell}
 use Rattle.house.specs.Fits.{ContactFits}
 use Rattle.house.specs.Layout.{recordOf}
+use Rattle.house.specs.declared.Contact.{Contact}
 use Rattle.house.specs.declared.Point.{Point}
 use Rattle.house.proofs.Round.{length-contact, record-of-head, record-of-contact}
-use Rattle.house.proofs.WellFormed.{never}
-use Rattle.machine.specs.Table.{contacts, active}
+use Rattle.house.proofs.WellFormed.{never, all-split}
+use Rattle.touch.proofs.Ranges.{ContactRead}
+use Rattle.machine.specs.Table.{contacts, origin, active}
 use Rattle.machine.specs.Machine.{cancelFlags}
 use Rattle.contacts.specs.Touch.{bareContact}
 use Rattle.stream.specs.Asked.{TableLaw, Laws}
@@ -66,28 +69,50 @@ touch-table =
 
 -- ---- records
 
+-- a position that a message carries: 30 bits hold it, and neither coordinate is -2^29
 pub record PlaceFits (p : Point) : Type 0 where
   pub x : Holds 30 (p .x)
   pub y : Holds 30 (p .y)
+  pub x-well : placeWell (p .x) ≡ true
+  pub y-well : placeWell (p .y) ≡ true
 
-bare-fits : (flags id : ℕ) (p : Point) → flags < 64 → id < contacts → PlaceFits p → ContactFits (bareContact flags id p)
+origin-fits : PlaceFits origin
+unfolding above
+origin-fits = record { x = record { holds = lit< tt }; y = record { holds = lit< tt }; x-well = refl; y-well = refl }
+
+-- a contact whose record holds it, at such a position
+pub record Fits (c : Contact) : Type 0 where
+  pub fields : ContactFits c
+  pub place : PlaceFits (c .place)
+
+pub bare-fits : (flags id : ℕ) (p : Point) → flags < 64 → id < contacts → PlaceFits p → Fits (bareContact flags id p)
 bare-fits flags id p hf hi hp =
     let none : Holds 15 (pos 0) = record { holds = lit< tt } in
     record {
-      flags = hf;
-      present = lit< tt;
-      id = hi;
-      x = hp .x;
-      y = hp .y;
-      left = none;
-      top = none;
-      right = none;
-      bottom = none;
-      orientation = lit< tt;
-      pressure = lit< tt;
+      fields = record {
+        flags = hf;
+        present = lit< tt;
+        id = hi;
+        x = hp .x;
+        y = hp .y;
+        left = none;
+        top = none;
+        right = none;
+        bottom = none;
+        orientation = lit< tt;
+        pressure = lit< tt;
+      };
+      place = hp;
     }
 
-pub touch-law : Laws touchProfile next recordOf seenIn OneOfThree ContactFits PlaceFits
+-- what a message carries fits
+pub read-fits : (c : Contact) → ContactRead c → Fits c
+unfolding contactWell
+read-fits c h =
+    let x = all-split _ _ (all-split _ _ (h .well) .1) in
+    record { fields = h .fits; place = record { x = h .fits .x; y = h .fits .y; x-well = x .0; y-well = all-split _ _ (x .1) .0 } }
+
+pub touch-law : Laws touchProfile next recordOf seenIn OneOfThree Fits PlaceFits
 touch-law =
     record {
       one-table = λ x. refl;
@@ -95,10 +120,10 @@ touch-law =
       records = record {
         long = length-contact;
         head-seen = λ h rest f. ap seenIn (record-of-head h rest f);
-        contact-seen = λ kind c rest low high f. ap seenIn (record-of-contact kind c rest low high f);
-        id-fits = λ c f. f .id;
-        place-fits = λ c f. record { x = f .x; y = f .y };
-        origin-fits = record { x = record { holds = lit< tt }; y = record { holds = lit< tt } };
+        contact-seen = λ kind c rest low high f. ap seenIn (record-of-contact kind c rest low high (f .fields));
+        id-fits = λ c f. f .fields .id;
+        place-fits = λ c f. f .place;
+        origin-fits = origin-fits;
         bare-fits = bare-fits;
         bare-flags = λ flags id p. refl;
         bare-id = λ flags id p. refl;

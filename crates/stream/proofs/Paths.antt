@@ -90,7 +90,7 @@ same-place p = rw (same-number (p .x), same-number (p .y))
 
 -- ---- the flags of a cancel
 
-cancel-small : (s : ℕ) → cancelFlags s < 64
+pub cancel-small : (s : ℕ) → cancelFlags s < 64
 cancel-small s = go (eqb s 2)
   where
     go : (b : Bool) → cond b 0x24 0x22 < 64

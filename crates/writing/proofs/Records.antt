@@ -88,7 +88,7 @@ contact-again : (l : List ℕ) → Stands touched l → Bytes l → contactBytes
 unfolding bytesOf
 contact-again l s b = sym (ap bytesOf (contact-is l s)) ∙ bytes-of-record l (s .well) b
 
-kind-touched : (c : Contact) → kindWell touched c ≡ true
+pub kind-touched : (c : Contact) → kindWell touched c ≡ true
 unfolding kindWell
 kind-touched c = refl
 

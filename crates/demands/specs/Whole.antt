@@ -1,0 +1,26 @@
+-- What the plain reading and the receiver write, over the calls: records of whole frames, each of them well formed.
+use Prim.Native.Nat.{ℕ, _*_, _<_}
+use mathlib.Core.Path.{_≡_}
+use mathlib.Core.Bool.{true}
+use mathlib.Core.List.{List}
+use lib.ListN.{length, take, drop}
+use Rattle.digits.specs.Digits.{Bytes}
+use Rattle.house.specs.Fields.{recordBytes}
+use Rattle.house.specs.WellFormed.{wellFormed}
+use Rattle.framing.specs.Whole.{FramesWhole}
+use Rattle.reading.specs.Plain.{ReadsPlainly}
+use Rattle.reading.specs.declared.PlainAnswer.{PlainAnswer}
+use Rattle.receiver.specs.Receive.{fresh, Receives}
+use Rattle.receiver.specs.History.{Sent, OfBytes, after}
+use Rattle.receiver.specs.declared.Receiver.{Receiver}
+use Rattle.receiver.specs.declared.Answer.{Answer}
+
+-- the records answered stand at the front of the output that was lent as `before` and left as `out`
+pub record WritesWholeFrames : Type 0 where
+  pub plain : (message : List ℕ) (a : PlainAnswer) (before out : List ℕ) → Bytes message → ReadsPlainly message a before out
+      → FramesWhole (take (recordBytes * a .records) out)
+  -- after any history of a fresh receiver
+  pub receiver : (history : List Sent) (message before : List ℕ) (q : Receiver) (a : Answer) (out : List ℕ) → OfBytes history → Bytes message
+      → Receives (after fresh history) message before q a out → FramesWhole (take (recordBytes * a .records) out)
+  -- reading a record of whole frames, wherever it stands, answers no 14
+  pub readable : (l : List ℕ) (i : ℕ) → FramesWhole l → recordBytes * i < length l → wellFormed (drop (recordBytes * i) l) ≡ true

@@ -9,7 +9,7 @@ use lib.Dec.{eqb, ltb, leb, lit<, lit≤}
 use lib.ListN.{length, take, drop}
 use lib.Seq.{take-at}
 use borrow.Author.Tests.{eqb-true, eqb-false, ltb-true, ltb-false, leb-true, leb-false}
-use Rattle.paper.specs.Refusals.{noRoom}
+use Rattle.paper.specs.Refusals.{none, noRoom, badRecord}
 use Rattle.digits.specs.Digits.{Bytes}
 use Rattle.digits.proofs.Laws.{bytes-drop}
 use Rattle.slices.specs.Writing.{Draft, bytes, refuse, given, left}
@@ -17,12 +17,14 @@ use Rattle.formats.specs.Format.{Got, got, bad}
 use Rattle.states.specs.Table.{hovering, engaged, listed, placeOf}
 use Rattle.fields.specs.Integers.{taken}
 use Rattle.house.specs.Fields.{recordBytes}
-use Rattle.house.specs.Layout.{touched, cancelled, dismissed}
-use Rattle.house.specs.WellFormed.{orientationMost, pressureMost, all, sidesWell, atMost, contactWell, kindWell}
+use Rattle.house.specs.Layout.{touched, cancelled, dismissed, recordOf}
+use Rattle.house.specs.WellFormed.{orientationMost, pressureMost, all, sidesWell, atMost, contactWell, kindWell, wellFormed}
 use Rattle.house.specs.Fits.{noSides}
 use Rattle.house.specs.declared.Contact.{Contact}
 use Rattle.house.specs.declared.Point.{Point}
-use Rattle.house.proofs.WellFormed.{all-join}
+use Rattle.house.specs.declared.Record.{Record}
+use Rattle.house.proofs.Front.{Front, front, record-head, record-contact, well-short}
+use Rattle.house.proofs.WellFormed.{never, all-join}
 use Rattle.messages.specs.Header.{headerBytes}
 use Rattle.messages.specs.Header as event
 use Rattle.messages.specs.declared.Ready.{Ready}
@@ -54,6 +56,9 @@ use Rattle.receiver.proofs.Lawful.{OneOfThree, PlaceFits, bare-fits, touch-law}
 use Rattle.receiver.proofs.Invariants.{Kept, message-read, frames-fit, history-kept}
 use Rattle.receiver.proofs.Records.{records-written}
 use Rattle.receiver.proofs.Streaming.{bytes-touched}
+use Rattle.kangirlo.specs.Flat.{flattened, flat}
+use Rattle.kangirlo.specs.Flat as flat-record
+use Rattle.kangirlo.specs.declared.FlatRecord.{FlatRecord}
 use Rattle.demands.specs.Whole.{WritesWholeFrames}
 use Rattle.demands.proofs.RoundTrip.{judged as plain-judged, read-front}
 use Rattle.demands.specs.RoundTrip.{Refused}
@@ -211,6 +216,16 @@ received-front r message before q a out h =
     let n : recordBytes * a .records ≡ length (wrote r x) = ap (λ (v : Answer). recordBytes * v .records) (h .answered) ∙ records-written r x in
     (λ i. take (n i) (h .output i)) ∙ written-front before (given (length before) (draftOf (effect r message)))
 
+-- a well-formed record is read
+front-read : (l : List ℕ) → Front l → wellFormed l ≡ true → flattened (recordOf l) .refusal ≡ none
+front-read l (Front.short h) w = never w (well-short l h)
+front-read l (Front.head h k) w = ap (λ (r : Record). flattened r .refusal) (record-head l h k)
+front-read l (Front.contact h k) w = ap (λ (r : Record). flattened r .refusal) (record-contact l h k)
+
+well-read : (l : List ℕ) → wellFormed l ≡ true → flat l .refusal ≡ none
+unfolding flat
+well-read l w = ap (λ (b : Bool). cond b (flattened (recordOf l)) (flat-record.refused badRecord) .refusal) w ∙ front-read l (front l) w
+
 pub writes-whole-frames : WritesWholeFrames
 writes-whole-frames =
     record {
@@ -219,5 +234,6 @@ writes-whole-frames =
           let r = after fresh history in
           let x : Sent = record { message = message; room = length before } in
           rw (received-front r message before q a out h) (became-whole r message bm (history-kept history b) (became r x));
-      readable = λ l i h k. each-is-well-formed zero l h i k;
+      formed = λ l i h k. each-is-well-formed zero l h i k;
+      readable = λ l i r h k e. ap (λ (v : FlatRecord). v .refusal) e ∙ well-read (drop (recordBytes * i) l) (each-is-well-formed zero l h i k);
     }

@@ -4,6 +4,7 @@ use mathlib.Core.Path.{_≡_}
 use mathlib.Core.Bool.{true}
 use mathlib.Core.List.{List}
 use lib.ListN.{length, take, drop}
+use Rattle.paper.specs.Refusals.{none}
 use Rattle.digits.specs.Digits.{Bytes}
 use Rattle.house.specs.Fields.{recordBytes}
 use Rattle.house.specs.WellFormed.{wellFormed}
@@ -14,6 +15,8 @@ use Rattle.receiver.specs.Receive.{fresh, Receives}
 use Rattle.receiver.specs.History.{Sent, OfBytes, after}
 use Rattle.receiver.specs.declared.Receiver.{Receiver}
 use Rattle.receiver.specs.declared.Answer.{Answer}
+use Rattle.kangirlo.specs.Flat.{flat}
+use Rattle.kangirlo.specs.declared.FlatRecord.{FlatRecord}
 
 -- the records answered stand at the front of the output that was lent as `before` and left as `out`
 pub record WritesWholeFrames : Type 0 where
@@ -22,5 +25,7 @@ pub record WritesWholeFrames : Type 0 where
   -- after any history of a fresh receiver
   pub receiver : (history : List Sent) (message before : List ℕ) (q : Receiver) (a : Answer) (out : List ℕ) → OfBytes history → Bytes message
       → Receives (after fresh history) message before q a out → FramesWhole (take (recordBytes * a .records) out)
-  -- reading a record of whole frames, wherever it stands, answers no 14
-  pub readable : (l : List ℕ) (i : ℕ) → FramesWhole l → recordBytes * i < length l → wellFormed (drop (recordBytes * i) l) ≡ true
+  -- each record of whole frames is one that house::is_well_formed takes, and kangirlo_read_record refuses none of them by 14
+  pub formed : (l : List ℕ) (i : ℕ) → FramesWhole l → recordBytes * i < length l → wellFormed (drop (recordBytes * i) l) ≡ true
+  pub readable : (l : List ℕ) (i : ℕ) (r : FlatRecord) → FramesWhole l → recordBytes * i < length l → r ≡ flat (drop (recordBytes * i) l)
+      → r .refusal ≡ none

@@ -13,9 +13,9 @@ use Rattle.digits.specs.Digits.{Bytes}
 use Rattle.digits.proofs.Laws.{bytes-drop}
 use Rattle.formats.specs.Format.{got, Format}
 use Rattle.formats.proofs.Laws.{Law, Back, Sound, Short, Exact, never}
-use Rattle.integers.specs.Integer.{Reading, value, refused, reading, writing, limit, signs}
+use Rattle.integers.specs.Integer.{Reading, value, refused, reading, writing, limit, tops, signs}
 use Rattle.integers.specs.Answer.{minus, signedValue}
-use Rattle.integers.proofs.Laws.{length-and-value, reading-decoded, reading-inside, writing-shorter}
+use Rattle.integers.proofs.Laws.{Fault, only-form-refused, length-and-value, reading-decoded, reading-inside, writing-shorter}
 use Rattle.integers.proofs.Signed.{minus-small, signed-again}
 use Rattle.fields.specs.Integers.{Shape, unsigned, signed, gotBy, integer, Integers, integersBy, strict, takenReading, taken}
 
@@ -176,6 +176,10 @@ strict-law = integers-law (Unit {0}) reading strict-reads (λ x k g hk h. length
 
 pub taken-law : IntegersLaw (Unit {0}) taken
 taken-law = strict-law
+
+-- refused with 5 or 6
+pub taken-refused : (k g : ℕ) (l : List ℕ) (e : ℕ) → takenReading k g l ≡ refused e → Fault e
+taken-refused k g = only-form-refused (tops k g) (signs g)
 
 pub taken-range : IntegersRange taken
 taken-range = integers-range takenReading

@@ -11,9 +11,10 @@ use Rattle.paper.specs.Refusals.{none, short, tooLong, unexpected, badLength, t
 use Rattle.slices.specs.Writing.{laid, Draft, bytes, refuse, left}
 use Rattle.formats.specs.Format.{got, bad, whole, byte}
 use Rattle.formats.proofs.Refusing.{Tame, Tamed, and-then, by-test, done-tame, field-tame, such-tame, when-tame, series-tame, whole-tame, byte-tame, little-tame}
-use Rattle.integers.specs.Integer.{Reading, value, refused, tops, signs, reading}
-use Rattle.integers.proofs.Laws.{Fault, cut, form, only-form-refused}
-use Rattle.fields.specs.Integers.{Shape, gotBy, integer, unsigned, signed, taken}
+use Rattle.integers.specs.Integer.{Reading, value, refused}
+use Rattle.integers.proofs.Laws.{Fault, cut, form}
+use Rattle.fields.specs.Integers.{Shape, gotBy, integer, unsigned, signed, takenReading, taken}
+use Rattle.fields.proofs.Laws.{taken-refused}
 use Rattle.house.specs.WellFormed.{has}
 use Rattle.house.specs.Fits.{noSides}
 use Rattle.messages.specs.Header.{headed, readMessage, clientReady, touch, headerBytes, mostBytes, eventOf, pduLength, oneOf}
@@ -55,17 +56,17 @@ offset-listed true e = refl
 offset-listed false e = never e
 
 module _ (b : Bool) where
-  integer-tame : {A : Type 0} (h : Shape A) (k g : ℕ) → Tamed (Listed b) (integer h reading k g)
+  integer-tame : {A : Type 0} (h : Shape A) (k g : ℕ) → Tamed (Listed b) (integer h takenReading k g)
   unfolding oneOf
-  integer-tame h k g = record { tame = λ l. go l (reading k g l) refl }
+  integer-tame h k g = record { tame = λ l. go l (takenReading k g l) refl }
     where
       by : (e : ℕ) → Fault e → Listed b e
       by e (cut w) = rw w refl
       by e (form w) = rw w refl
 
-      go : (l : List ℕ) (x : Reading) → reading k g l ≡ x → Tame (Listed b) (gotBy (h .made) x l)
+      go : (l : List ℕ) (x : Reading) → takenReading k g l ≡ x → Tame (Listed b) (gotBy (h .made) x l)
       go l (value s m n) w = tt
-      go l (refused e) w = by e (only-form-refused (tops k g) (signs g) l e w)
+      go l (refused e) w = by e (taken-refused k g l e w)
 
   u2 : Tamed (Listed b) (taken .u2)
   u2 = integer-tame unsigned 1 0

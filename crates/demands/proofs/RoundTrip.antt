@@ -9,19 +9,18 @@ use lib.Dec.{leb, ltb}
 use lib.ListN.{length, take, drop}
 use lib.Seq.{take-at}
 use borrow.Author.Tests.{leb-true, leb-false}
-use Rattle.paper.specs.Refusals.{none, noRoom, badRange, badCount, tooLong, badRecord, badField, trailing}
+use Rattle.paper.specs.Refusals.{none, noRoom, badRange, badCount, tooLong, badField, trailing}
 use Rattle.paper.specs.declared.Milliseconds.{Milliseconds}
 use Rattle.digits.specs.Digits.{Bytes}
 use Rattle.slices.specs.Writing.{Draft, bytes, refuse, given, answered, left, Writes}
 use Rattle.slices.specs.declared.Written.{Written}
 use Rattle.slices.proofs.Laws.{given-room, given-none, given-refuse, writes-done}
-use Rattle.formats.specs.Format.{Got, got, bad, andThen, Format, readSeries, times, ended, whole, byte}
+use Rattle.formats.specs.Format.{Got, got, bad, andThen, Format, ended, whole, byte}
 use Rattle.formats.specs.Answer.{refusalOf}
 use Rattle.integers.specs.Integer.{limit}
 use Rattle.house.specs.Fields.{recordBytes}
-use Rattle.house.specs.Layout.{head, touched}
 use Rattle.house.specs.declared.Contact.{Contact}
-use Rattle.messages.specs.Header.{headed, readMessage, serverReady, clientReady, suspend, resume, dismiss, mostBytes}
+use Rattle.messages.specs.Header.{oneOf, headed, readMessage, serverReady, clientReady, suspend, resume, dismiss, mostBytes}
 use Rattle.messages.specs.Bodies.{version, ready, nothing, versionListed, flagsListed, serverReadyDraft, clientReadyDraft, suspendDraft, resumeDraft, dismissDraft}
 use Rattle.messages.specs.declared.Ready.{Ready}
 use Rattle.messages.specs.declared.ReadVersion.the-variants as version-read
@@ -36,12 +35,12 @@ use Rattle.touch.specs.Touch.{Touch, touchRecord}
 use Rattle.reading.specs.Plain.{plainly, draftOf, timeOf, ReadsPlainly}
 use Rattle.reading.specs.Plain as plain
 use Rattle.reading.specs.declared.PlainAnswer.{PlainAnswer}
-use Rattle.writing.specs.Records.{stands, headRecord, contactRecord, frameRecords, readAll, framesIn}
+use Rattle.writing.specs.Records.{framesIn}
 use Rattle.writing.specs.TouchDraft.{messageOf, framesDraft, recordsDraft, touchDraft}
 use Rattle.writing.proofs.RoundTrip.{accepted-is-written-back-to-the-same-bytes, written-is-read-back-to-the-same-records-and-time}
-use Rattle.receiver.proofs.Refusing.{Tame, and-then, whole-tame, headed-tame}
+use Rattle.formats.proofs.Refusing.{Tame, and-then, done-tame, whole-tame}
+use Rattle.receiver.proofs.Refusing.{Listed, headed-tame, message-tame}
 use Rattle.demands.specs.RoundTrip.{Wrote, Read, Refused, Judged, Trip, ReadAndWrittenBack}
-use Rattle.demands.proofs.Refusals.{plainly-tame}
 
 -- ---- the plain reading, by what it reads
 
@@ -77,6 +76,12 @@ read-front time fs a before after h =
     ap (take (recordBytes * a .records)) (h .output) ∙ take-at s (drop (length s) before) (recordBytes * a .records) long
 
 -- what it accepted, it read and had room for
+-- no reader refuses by 0
+not-none : (n : ℕ) → Listed false n → 1 ≤ n
+unfolding oneOf
+not-none zero h = absurd (let z : _≡_ {A = ℕ} 0 1 = cc in omega arith)
+not-none (suc n) h = omega arith
+
 record Accepted (message : List ℕ) (a : PlainAnswer) (before after : List ℕ) : Type 0 where
   content : Touch
   rest : List ℕ
@@ -89,10 +94,10 @@ refused-so n a before after h low z =
     absurd (omega (arith, e, z, low))
 
 accepted : (message : List ℕ) (a : PlainAnswer) (before after : List ℕ) → ReadsPlainly message a before after → a .refusal ≡ none → Accepted message a before after
-accepted message a before after h z = go (plainly message) refl (plainly-tame message)
+accepted message a before after h z = go (plainly message) refl (message-tame false message)
   where
-    go : (x : Got Touch) → plainly message ≡ x → Tame x → Accepted message a before after
-    go (bad n) e k = refused-so n a before after (judged message a before after h .refuses n e) (k .low) z
+    go : (x : Got Touch) → plainly message ≡ x → Tame (Listed false) x → Accepted message a before after
+    go (bad n) e k = refused-so n a before after (judged message a before after h .refuses n e) (not-none n k) z
     go (got m t) e k = by (leb (length (framesBytes touchRecord (m .frames))) (length before)) refl
       where
         by : (b : Bool) → leb (length (framesBytes touchRecord (m .frames))) (length before) ≡ b → Accepted message a before after
@@ -135,45 +140,17 @@ tested false d n low h = low
 
 -- ---- the touch writer's draft: records that are no frames are refused by 14
 
-abbrev Known : {A : Type 0} → Got A → Type 0
-Known (got a t) = Unit {0}
-Known (bad n) = 1 ≤ n
-
-known-then : {A B : Type 0} (x : Got A) (f : A → List ℕ → Got B) → Known x → ((a : A) (t : List ℕ) → Known (f a t)) → Known (andThen x f)
-known-then (got a t) f h k = k a t
-known-then (bad n) f h k = h
-
-known-by : {A : Type 0} (b : Bool) (x : A) (t : List ℕ) → Known (cond b (got x t) (bad badRecord))
-known-by true x t = tt
-known-by false x t = omega arith
-
-known-series : (n : ℕ) (l : List ℕ) → Known (readSeries (λ b. contactRecord .read) false n l)
-unfolding readSeries
-known-series zero l = tt
-known-series (suc n) l = known-then (contactRecord .read l) _ (known-by (stands touched l) _ _) (λ c t. known-then (readSeries (λ b. contactRecord .read) false n t) _ (known-series n t) (λ more u. tt))
-
-known-frame : (l : List ℕ) → Known (frameRecords .read l)
-unfolding frameRecords
-known-frame l = known-then (headRecord .read l) _ (known-by (stands head l) _ _) (λ h t. known-then (times (h .count) contactRecord .read t) _ (known-series (h .count) t) (λ cs u. tt))
-
-known-all : (n : ℕ) (l : List ℕ) → Known (readAll (frameRecords .read) n l)
-unfolding readAll
-known-all zero [] = tt
-known-all zero (x ∷ l) = omega arith
-known-all (suc n) [] = tt
-known-all (suc n) (x ∷ l) = known-then (frameRecords .read (x ∷ l)) _ (known-frame (x ∷ l)) (λ f t. known-then (readAll (frameRecords .read) n t) _ (known-all n t) (λ more u. tt))
-
 frames-named : (time : Milliseconds) (fs : List (Frame Contact)) → Named (framesDraft time fs)
 unfolding framesDraft
 frames-named time fs = tested (leb (length fs) mostFrames) _ badCount (omega arith) (tested (leb (length (messageOf time fs)) mostBytes) _ tooLong (omega arith) tt)
 
-records-named : (time : Milliseconds) (x : Got (List (Frame Contact))) → Known x → Named (recordsDraft time x)
-records-named time (got fs t) h = frames-named time fs
-records-named time (bad n) h = h
+records-named : (time : Milliseconds) (x : Got (List (Frame Contact))) → Named (recordsDraft time x)
+records-named time (got fs t) = frames-named time fs
+records-named time (bad n) = omega arith
 
 touch-named : (time : Milliseconds) (records : List ℕ) → Named (touchDraft time records)
-unfolding touchDraft framesIn
-touch-named time records = tested (ltb (time .0) (limit 2 0)) _ badRange (omega arith) (records-named time (framesIn records) (known-all (length records) records))
+unfolding touchDraft
+touch-named time records = tested (ltb (time .0) (limit 2 0)) _ badRange (omega arith) (records-named time (framesIn records))
 
 -- ---- touch messages
 
@@ -235,21 +212,23 @@ unfolding dismissDraft
 dismiss-named id = tt
 
 -- a message of a header alone is refused by a number, or read
-empty-tame : (e : ℕ) (l : List ℕ) → Tame (readMessage e nothing l)
-unfolding readMessage
-empty-tame e l = and-then (headed (e ∷ []) l) _ (headed-tame _ l) (λ x b. whole-tame nothing (record { tame = λ l. tt }) b)
+empty-tame : (e : ℕ) (l : List ℕ) → Tame (Listed false) (readMessage e nothing l)
+unfolding readMessage oneOf
+empty-tame e l =
+    and-then (Listed false) (headed (e ∷ []) l) _ (headed-tame false (e ∷ []) l)
+    (λ x b. whole-tame (Listed false) nothing trailing refl (done-tame (Listed false) tt) b)
 
 empty-accepts : (e : ℕ) (l : List ℕ) (v : Unit {0}) → none ≡ refusalOf (readMessage e nothing l) → readMessage e nothing l ≡ got v []
 unfolding readMessage ended
 empty-accepts e l v h = go (headed (e ∷ []) l) (empty-tame e l) h
   where
-    go : (x : Got ℕ) → Tame (andThen x (λ k b. whole nothing trailing b)) → none ≡ refusalOf (andThen x (λ k b. whole nothing trailing b)) → andThen x (λ k b. whole nothing trailing b) ≡ got v []
-    go (bad n) k z = absurd (omega (arith, k .low, z))
+    go : (x : Got ℕ) → Tame (Listed false) (andThen x (λ k b. whole nothing trailing b)) → none ≡ refusalOf (andThen x (λ k b. whole nothing trailing b)) → andThen x (λ k b. whole nothing trailing b) ≡ got v []
+    go (bad n) k z = absurd (omega (arith, not-none n k, z))
     go (got n b) k z = on b k z
       where
-        on : (b : List ℕ) → Tame (whole nothing trailing b) → none ≡ refusalOf (whole nothing trailing b) → whole nothing trailing b ≡ got v []
+        on : (b : List ℕ) → Tame (Listed false) (whole nothing trailing b) → none ≡ refusalOf (whole nothing trailing b) → whole nothing trailing b ≡ got v []
         on [] k z = refl
-        on (y ∷ b) k z = absurd (omega (arith, k .low, z))
+        on (y ∷ b) k z = absurd (omega (arith, not-none trailing k, z))
 
 empty-answers : (e : ℕ) (l : List ℕ) (r : ℕ) (v : Unit {0}) → r ≡ refusalOf (readMessage e nothing l) → readMessage e nothing l ≡ got v [] → r ≡ none
 empty-answers e l r v h k = h ∙ ap refusalOf k

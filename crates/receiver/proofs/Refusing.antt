@@ -163,7 +163,7 @@ module _ (b : Bool) where
       field-tame (Listed b) _ (λ r. r .most) _ (little-tame (Listed b) refl 2) λ m.
       done-tame (Listed b) _
 
-  headed-tame : (events l : List ℕ) → Tame (Listed b) (headed events l)
+  pub headed-tame : (events l : List ℕ) → Tame (Listed b) (headed events l)
   unfolding headed oneOf
   headed-tame events l =
       by-test (Listed b) (ltb (length l) headerBytes) (bad short) _ refl

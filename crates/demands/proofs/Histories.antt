@@ -31,7 +31,7 @@ use Rattle.demands.specs.Histories.{Call, Calls, History, last, recordsL
 
 -- ---- a call is a step of a history
 
-abbrev sentBy : Call → Sent
+abbrev pub sentBy : Call → Sent
 sentBy c = record { message = c .message; room = length (c .before) }
 
 abbrev Allowed : Receiver → Call → Type 0
@@ -47,7 +47,7 @@ module _ (r : Receiver) (c : Call) (k : Allowed r c) where
   call-answer : c .answer ≡ answerTo r (sentBy c)
   call-answer = call-step .1
 
-  call-left : recordsLeft c ≡ wrote r (sentBy c)
+  pub call-left : recordsLeft c ≡ wrote r (sentBy c)
   unfolding recordsLeft
   call-left =
       let s = wrote r (sentBy c) in
@@ -107,7 +107,7 @@ calls-unopened r (c ∷ cs) k h = (
   subst (λ (q : Receiver). Unopened q (sent cs)) (call-receiver r c (k .0)) (calls-unopened (c .receiver) cs (k .1) (h .1)),
 )
 
-calls-kept : (h : List Call) → History h → Kept (last fresh h)
+pub calls-kept : (h : List Call) → History h → Kept (last fresh h)
 calls-kept h k = subst Kept (sym (calls-last fresh h (k .calls))) (history-kept (sent h) (sent-bytes h (k .bytes)))
 
 -- ---- the sentences

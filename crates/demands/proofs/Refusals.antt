@@ -165,8 +165,8 @@ receiver-refuses r message before q a after h u =
 
 -- ---- the demand
 
-pub demand-1 : EveryRefusal
-demand-1 =
+pub every-refusal : EveryRefusal
+every-refusal =
     record {
       receive = λ r message before x. receiver-refuses r message before (x .receiver) (x .answer);
       kangirlo-receive = receiver-refuses;

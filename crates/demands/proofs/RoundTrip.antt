@@ -233,8 +233,8 @@ empty-accepts e l v h = go (headed (e ∷ []) l) (empty-tame e l) h
 empty-answers : (e : ℕ) (l : List ℕ) (r : ℕ) (v : Unit {0}) → r ≡ refusalOf (readMessage e nothing l) → readMessage e nothing l ≡ got v [] → r ≡ none
 empty-answers e l r v h k = h ∙ ap refusalOf k
 
-pub demand-2 : ReadAndWrittenBack
-demand-2 =
+pub read-and-written-back : ReadAndWrittenBack
+read-and-written-back =
     record {
       judged = judged;
       writtenBack = written-back;

@@ -7,12 +7,10 @@ use mathlib.Core.List.{List, [], _∷_, _++_, append-nil}
 use native.Mathlib.Omega.{arith}
 use lib.Dec.{eqb, ltb, leb, lit<, lit≤}
 use lib.ListN.{length, take, drop}
-use lib.Seq.{take-at}
 use borrow.Author.Tests.{eqb-true, eqb-false, ltb-true, ltb-false, leb-true, leb-false}
 use Rattle.paper.specs.Refusals.{none, noRoom, badRecord}
 use Rattle.digits.specs.Digits.{Bytes}
 use Rattle.digits.proofs.Laws.{bytes-drop}
-use Rattle.slices.specs.Writing.{Draft, bytes, refuse, given, left}
 use Rattle.formats.specs.Format.{Got, got, bad}
 use Rattle.states.specs.Table.{hovering, engaged, listed, placeOf}
 use Rattle.fields.specs.Integers.{taken}
@@ -46,15 +44,16 @@ use Rattle.stream.proofs.Paths.{cancel-small}
 use Rattle.reading.specs.Plain.{plainly, ReadsPlainly}
 use Rattle.reading.specs.declared.PlainAnswer.{PlainAnswer}
 use Rattle.writing.proofs.Records.{kind-touched}
-use Rattle.receiver.specs.Receive.{machineOf, fresh, untimed, effect, draftOf, Receives}
-use Rattle.receiver.specs.History.{Sent, answerTo, writtenBy, wrote, after, touchProfile}
+use Rattle.receiver.specs.Receive.{machineOf, fresh, untimed}
+use Rattle.receiver.specs.History.{touchProfile}
 use Rattle.receiver.specs.declared.Receiver.{Receiver}
 use Rattle.receiver.specs.declared.Answer.{Answer}
+use Rattle.demands.specs.Histories.{Call, Calls, History, last, recordsLeft}
+use Rattle.demands.proofs.Histories.{sentBy, call-left, calls-kept}
 use Rattle.receiver.proofs.Became.{Became, became, refused, settles, touches, dismisses}
 use Rattle.receiver.proofs.Fitting.{body-read}
 use Rattle.receiver.proofs.Lawful.{OneOfThree, PlaceFits, bare-fits, touch-law}
-use Rattle.receiver.proofs.Invariants.{Kept, message-read, frames-fit, history-kept}
-use Rattle.receiver.proofs.Records.{records-written}
+use Rattle.receiver.proofs.Invariants.{Kept, message-read, frames-fit}
 use Rattle.receiver.proofs.Streaming.{bytes-touched}
 use Rattle.kangirlo.specs.Flat.{flattened, flat}
 use Rattle.kangirlo.specs.Flat as flat-record
@@ -204,18 +203,6 @@ plain-whole message a before out b h = go (plainly message) refl
             (frames-whole (m .frames) (plainly-read message m t b e))
         by false r = none-whole noRoom a before out (plain-judged message a before out h .lacksRoom m t e (leb-false _ _ r))
 
-written-front : (before : List ℕ) (d : Draft) → take (length (writtenBy d)) (left before d) ≡ writtenBy d
-written-front before (bytes s) = take-at s (drop (length s) before) (length s) refl
-written-front before (refuse n) = refl
-
-received-front : (r : Receiver) (message before : List ℕ) (q : Receiver) (a : Answer) (out : List ℕ) → Receives r message before q a out
-    → take (recordBytes * a .records) out ≡ wrote r (record { message = message; room = length before })
-unfolding wrote answerTo
-received-front r message before q a out h =
-    let x : Sent = record { message = message; room = length before } in
-    let n : recordBytes * a .records ≡ length (wrote r x) = ap (λ (v : Answer). recordBytes * v .records) (h .answered) ∙ records-written r x in
-    (λ i. take (n i) (h .output i)) ∙ written-front before (given (length before) (draftOf (effect r message)))
-
 -- a well-formed record is read
 front-read : (l : List ℕ) → Front l → wellFormed l ≡ true → flattened (recordOf l) .refusal ≡ none
 front-read l (Front.short h) w = never w (well-short l h)
@@ -226,14 +213,17 @@ well-read : (l : List ℕ) → wellFormed l ≡ true → flat l .refusal ≡ non
 unfolding flat
 well-read l w = ap (λ (b : Bool). cond b (flattened (recordOf l)) (flat-record.refused badRecord) .refusal) w ∙ front-read l (front l) w
 
+received-whole : (h : List Call) → History h → (c : Call) → Calls (last fresh h) (c ∷ []) → Bytes (c .message) → FramesWhole (recordsLeft c)
+unfolding Calls
+received-whole h k c a b =
+    let r = last fresh h in
+    rw (call-left r c (a .0)) (became-whole r (c .message) b (calls-kept h k) (became r (sentBy c)))
+
 pub writes-whole-frames : WritesWholeFrames
 writes-whole-frames =
     record {
       plain = plain-whole;
-      receiver = λ history message before q a out b bm h.
-          let r = after fresh history in
-          let x : Sent = record { message = message; room = length before } in
-          rw (received-front r message before q a out h) (became-whole r message bm (history-kept history b) (became r x));
+      receiver = received-whole;
       formed = λ l i h k. each-is-well-formed zero l h i k;
       readable = λ l i r h k e. ap (λ (v : FlatRecord). v .refusal) e ∙ well-read (drop (recordBytes * i) l) (each-is-well-formed zero l h i k);
     }

@@ -1,4 +1,4 @@
--- DEMAND 1: "The receiver, the plain reading and the writers take every input, end, and refuse bad ones by a number of document 01. A refusal
+-- DEMAND 1: "The receiver, the plain reading and the writers take every input, end, and refuse bad ones by a number from document 01. A refusal
 -- changes no contact, no setting and not one byte of the lent output." That each call takes every input and ends is what the checker accepts
 -- of a function with no `requires`; what each can refuse with, and what a refusal leaves, is here, of any outcome that the call's contract
 -- allows.

@@ -2,7 +2,7 @@
 use Prim.Native.Nat.{ℕ, _*_, _<_}
 use mathlib.Core.Path.{_≡_}
 use mathlib.Core.Bool.{true}
-use mathlib.Core.List.{List}
+use mathlib.Core.List.{List, [], _∷_}
 use lib.ListN.{length, take, drop}
 use Rattle.paper.specs.Refusals.{none}
 use Rattle.digits.specs.Digits.{Bytes}
@@ -11,20 +11,17 @@ use Rattle.house.specs.WellFormed.{wellFormed}
 use Rattle.framing.specs.Whole.{FramesWhole}
 use Rattle.reading.specs.Plain.{ReadsPlainly}
 use Rattle.reading.specs.declared.PlainAnswer.{PlainAnswer}
-use Rattle.receiver.specs.Receive.{fresh, Receives}
-use Rattle.receiver.specs.History.{Sent, OfBytes, after}
-use Rattle.receiver.specs.declared.Receiver.{Receiver}
-use Rattle.receiver.specs.declared.Answer.{Answer}
+use Rattle.receiver.specs.Receive.{fresh}
 use Rattle.kangirlo.specs.Flat.{flat}
 use Rattle.kangirlo.specs.declared.FlatRecord.{FlatRecord}
+use Rattle.demands.specs.Histories.{Call, Calls, History, last, recordsLeft}
 
 -- the records answered stand at the front of the output that was lent as `before` and left as `out`
 pub record WritesWholeFrames : Type 0 where
   pub plain : (message : List ℕ) (a : PlainAnswer) (before out : List ℕ) → Bytes message → ReadsPlainly message a before out
       → FramesWhole (take (recordBytes * a .records) out)
-  -- after any history of a fresh receiver
-  pub receiver : (history : List Sent) (message before : List ℕ) (q : Receiver) (a : Answer) (out : List ℕ) → OfBytes history → Bytes message
-      → Receives (after fresh history) message before q a out → FramesWhole (take (recordBytes * a .records) out)
+  -- each call of the receiver, after any history of calls
+  pub receiver : (h : List Call) → History h → (c : Call) → Calls (last fresh h) (c ∷ []) → Bytes (c .message) → FramesWhole (recordsLeft c)
   -- each record of whole frames is one that house::is_well_formed takes, and kangirlo_read_record refuses none of them by 14
   pub formed : (l : List ℕ) (i : ℕ) → FramesWhole l → recordBytes * i < length l → wellFormed (drop (recordBytes * i) l) ≡ true
   pub readable : (l : List ℕ) (i : ℕ) (r : FlatRecord) → FramesWhole l → recordBytes * i < length l → r ≡ flat (drop (recordBytes * i) l)

@@ -1,1 +1,1 @@
-// Demand 1, as one statement over the public calls: it stands in proofs/.
+// The three demands, each as one statement over the public calls: what they say stands in specs/, and proofs/Demands.antt names them.

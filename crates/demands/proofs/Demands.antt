@@ -1,0 +1,31 @@
+-- THE THREE DEMANDS, each over nothing but the contracts of public calls. What each says is its type, in specs/.
+-- Assumes nothing.
+use Rattle.demands.specs.Refusing.{EveryRefusal}
+use Rattle.demands.specs.RoundTrip.{ReadAndWrittenBack}
+use Rattle.demands.specs.Histories.{EveryHistory}
+use Rattle.demands.specs.Whole.{WritesWholeFrames}
+use Rattle.demands.proofs.Refusals.{every-refusal}
+use Rattle.demands.proofs.RoundTrip.{read-and-written-back}
+use Rattle.demands.proofs.Histories.{every-history}
+use Rattle.demands.proofs.Whole.{writes-whole-frames}
+
+-- "The receiver, the plain reading and the writers take every input, end, and refuse bad ones by a number from document 01. A refusal changes no
+-- contact, no setting and not one byte of the lent output."
+pub demand-1 : EveryRefusal
+demand-1 = every-refusal
+
+-- "Messages are read and judged as [MS-RDPEI] says, with document 01's rules where it is silent. Given room, a touch message that the plain reading
+-- accepts is written back to the same bytes from its records and its encode time, and both are read back the same when the writer accepts them."
+pub demand-2 : ReadAndWrittenBack
+demand-2 = read-and-written-back
+
+-- "Take any history of messages to one receiver, refused ones among them. For each contact, the records written are a legal path through the three
+-- states, starting out of range. After a cancel's own records nothing is written until an opening frame. From any opening frame accepted while no
+-- contact is active, the records and the contact table are those of a rested receiver with the same ready settings, given that frame and all that
+-- follows, as long as neither is refused for lack of room."
+pub demand-3 : EveryHistory
+demand-3 = every-history
+
+-- And what is written is whole frames of well-formed records, so that no record of our own output is refused by 14.
+pub whole-frames : WritesWholeFrames
+whole-frames = writes-whole-frames

@@ -10,7 +10,7 @@ use lib.Seq.{drop-append-add}
 use borrow.Author.Tests.{le-leb}
 use Rattle.house.specs.Fields.{recordBytes}
 use Rattle.house.specs.Layout.{headIn, headBytes, contactBytes}
-use Rattle.house.specs.Layout as kind
+use Rattle.house.specs.Layout as layout
 use Rattle.house.specs.WellFormed.{contactWell, kindWell, wellFormed}
 use Rattle.house.specs.Fits.{HeadFits, ContactFits}
 use Rattle.house.specs.declared.Head.{Head}
@@ -21,7 +21,7 @@ use Rattle.framing.specs.Whole.{Formed, Framed, ends, head, contact, can
 
 -- ---- one record
 
-pub head-formed : (h : Head) → Formed kind.head (headBytes h)
+pub head-formed : (h : Head) → Formed layout.head (headBytes h)
 head-formed h = record { long = length-head h; well = rw append-nil at (head-well h []); kind = kind-head h }
 
 pub contact-formed : (k : ℕ) (c : Contact) → 1 ≤ k → k < 4 → ContactFits c → contactWell c ≡ true → kindWell k c ≡ true → Formed k (contactBytes k c)
@@ -59,7 +59,7 @@ one-well k s t f h (suc i) l =
 
 pub each-is-well-formed : (n : ℕ) (l : List ℕ) → Framed n l → (i : ℕ) → recordBytes * i < length l → wellFormed (drop (recordBytes * i) l) ≡ true
 each-is-well-formed n l ends i h = absurd (omega (arith, h))
-each-is-well-formed n l (head s t f k) i h = one-well kind.head s t f (λ j w. each-is-well-formed (headIn s .count) t k j w) i h
-each-is-well-formed n l (contact m s t f k) i h = one-well kind.touched s t f (λ j w. each-is-well-formed m t k j w) i h
-each-is-well-formed n l (cancel s t f k) i h = one-well kind.cancelled s t f (λ j w. each-is-well-formed zero t k j w) i h
-each-is-well-formed n l (dismissal s t f k) i h = one-well kind.dismissed s t f (λ j w. each-is-well-formed zero t k j w) i h
+each-is-well-formed n l (head s t f k) i h = one-well layout.head s t f (λ j w. each-is-well-formed (headIn s .count) t k j w) i h
+each-is-well-formed n l (contact m s t f k) i h = one-well layout.touched s t f (λ j w. each-is-well-formed m t k j w) i h
+each-is-well-formed n l (cancel s t f k) i h = one-well layout.cancelled s t f (λ j w. each-is-well-formed zero t k j w) i h
+each-is-well-formed n l (dismissal s t f k) i h = one-well layout.dismissed s t f (λ j w. each-is-well-formed zero t k j w) i h

@@ -7,7 +7,7 @@ use mathlib.Core.List.{List, [], _++_}
 use lib.ListN.{length}
 use Rattle.house.specs.Fields.{recordBytes}
 use Rattle.house.specs.Layout.{kindOf, headIn, touched, cancelled, dismissed}
-use Rattle.house.specs.Layout as kind
+use Rattle.house.specs.Layout as layout
 use Rattle.house.specs.WellFormed.{wellFormed}
 
 -- one well-formed record of a kind
@@ -19,7 +19,7 @@ pub record Formed (k : ℕ) (s : List ℕ) : Type 0 where
 -- records of which the first n are the contacts that are still to come of a frame: a head is followed by its count of contacts
 pub data Framed : ℕ → List ℕ → Type 0 where
   ends : Framed zero []
-  head : (s t : List ℕ) → Formed kind.head s → Framed (headIn s .count) t → Framed zero (s ++ t)
+  head : (s t : List ℕ) → Formed layout.head s → Framed (headIn s .count) t → Framed zero (s ++ t)
   contact : (n : ℕ) (s t : List ℕ) → Formed touched s → Framed n t → Framed (suc n) (s ++ t)
   cancel : (s t : List ℕ) → Formed cancelled s → Framed zero t → Framed zero (s ++ t)
   dismissal : (s t : List ℕ) → Formed dismissed s → Framed zero t → Framed zero (s ++ t)

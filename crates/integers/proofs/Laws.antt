@@ -127,9 +127,9 @@ decoded-more t q l more x e other = go l (decoded-cases t q l) e
     go [] (whole k d) e = absurd (omega arith)
     go (b ∷ xs) (whole k d) e =
         let c : ℕ = countOf t q b in
-        let held : c ≤ length xs = omega arith in
+        let within : c ≤ length xs = omega arith in
         let room : c < suc (length (xs ++ more)) = omega (arith, length-append xs more) in
-        decoded-whole t q (b ∷ (xs ++ more)) room ∙ rw (take-append-le c xs more held) (sym d ∙ e)
+        decoded-whole t q (b ∷ (xs ++ more)) room ∙ rw (take-append-le c xs more within) (sym d ∙ e)
 
 -- ---- the only form
 

@@ -27,7 +27,7 @@ use Rattle.receiver.specs.declared.Receiver.{Receiver}
 use Rattle.receiver.specs.declared.Received.{Received}
 use Rattle.receiver.specs.declared.Answer.{Answer}
 
--- ---- "Refusal numbers and their order": those that a call can give
+-- ---- "Refusal numbers and their order": a call gives no number but these
 
 -- "The integer writers check 10, then 13."
 abbrev pub integerNumbers : List ℕ

@@ -9,7 +9,7 @@ use lib.ListN.{length, drop, length-drop}
 use Rattle.formats.specs.Format.{Got, got, bad, Format, times}
 use Rattle.formats.specs.Answer.{Answers, skip}
 use Rattle.formats.proofs.Laws.{never}
-use Rattle.fields.specs.Integers.{taken}
+use Rattle.fields.specs.Integers.{Integers}
 use Rattle.framing.specs.declared.BodyHead.{BodyHead}
 use Rattle.touch.specs.declared.ReadContact.{ReadContact}
 use Rattle.touch.specs.declared.ReadContact.the-variants as ReadContact
@@ -39,37 +39,39 @@ by-making : {A R : Type 0} (f : Format A) (l : List ℕ) (of : R → List ℕ �
     → (a b : R) → Answers f l (of a l) (size a) → Answers f l (of b l) (size b) → a ≡ b
 by-making f l of size v r back a b ha hb = sym (back a (ha .inside)) ∙ ap (make v r l) (ha .same ∙ sym (hb .same)) ∙ back b (hb .inside)
 
-module _ (l : List ℕ) where
-  pub read-contact-unique : (a b : ReadContact) → Answers (contact taken) l (contactGot a l) (contactLength a) → Answers (contact taken) l (contactGot b l) (contactLength b) → a ≡ b
-  read-contact-unique = by-making (contact taken) l contactGot contactLength ReadContact.Value ReadContact.Refused back
+-- whatever integers are taken
+module _ (i : Integers) (l : List ℕ) where
+  pub read-contact-unique : (a b : ReadContact) → Answers (contact i) l (contactGot a l) (contactLength a) → Answers (contact i) l (contactGot b l) (contactLength b) → a ≡ b
+  read-contact-unique = by-making (contact i) l contactGot contactLength ReadContact.Value ReadContact.Refused back
     where
       back : (x : ReadContact) → contactLength x ≤ length l → make ReadContact.Value ReadContact.Refused l (contactGot x l) ≡ x
       back (ReadContact.Value c n) h = ap (ReadContact.Value c) (gone n l h)
       back (ReadContact.Refused e) h = refl
 
-  pub read-frame-head-unique : (judged : Bool) (a b : ReadHead) → Answers (frameHead taken judged) l (headGot a l) (headLength a) → Answers (frameHead taken judged) l (headGot b l) (headLength b) → a ≡ b
-  read-frame-head-unique judged = by-making (frameHead taken judged) l headGot headLength ReadHead.Value ReadHead.Refused back
+  pub read-frame-head-unique : (judged : Bool) (a b : ReadHead) → Answers (frameHead i judged) l (headGot a l) (headLength a) → Answers (frameHead i judged) l (headGot b l) (headLength b) → a ≡ b
+  read-frame-head-unique judged = by-making (frameHead i judged) l headGot headLength ReadHead.Value ReadHead.Refused back
     where
       back : (x : ReadHead) → headLength x ≤ length l → make ReadHead.Value ReadHead.Refused l (headGot x l) ≡ x
       back (ReadHead.Value h n) k = ap (ReadHead.Value h) (gone n l k)
       back (ReadHead.Refused e) k = refl
 
-  pub read-touch-head-unique : (a b : ReadTouchHead) → Answers (touchHead taken) l (touchHeadGot a l) (touchHeadLength a) → Answers (touchHead taken) l (touchHeadGot b l) (touchHeadLength b) → a ≡ b
-  read-touch-head-unique = by-making (touchHead taken) l touchHeadGot touchHeadLength ReadTouchHead.Value ReadTouchHead.Refused back
+  pub read-touch-head-unique : (a b : ReadTouchHead) → Answers (touchHead i) l (touchHeadGot a l) (touchHeadLength a) → Answers (touchHead i) l (touchHeadGot b l) (touchHeadLength b) → a ≡ b
+  read-touch-head-unique = by-making (touchHead i) l touchHeadGot touchHeadLength ReadTouchHead.Value ReadTouchHead.Refused back
     where
       back : (x : ReadTouchHead) → touchHeadLength x ≤ length l → make ReadTouchHead.Value ReadTouchHead.Refused l (touchHeadGot x l) ≡ x
       back (ReadTouchHead.Value h n) k = ap (ReadTouchHead.Value h) (gone n l k)
       back (ReadTouchHead.Refused e) k = refl
 
-  pub skip-contacts-unique : (n : ℕ) (a b : End) → Answers (skip (times n (contact taken))) l (endGot a l) (endLength a) → Answers (skip (times n (contact taken))) l (endGot b l) (endLength b) → a ≡ b
-  skip-contacts-unique n = by-making (skip (times n (contact taken))) l endGot endLength (λ u k. End.At k) End.Refused back
+  pub skip-contacts-unique : (n : ℕ) (a b : End) → Answers (skip (times n (contact i))) l (endGot a l) (endLength a) → Answers (skip (times n (contact i))) l (endGot b l) (endLength b) → a ≡ b
+  skip-contacts-unique n = by-making (skip (times n (contact i))) l endGot endLength (λ u k. End.At k) End.Refused back
     where
       back : (x : End) → endLength x ≤ length l → make (λ u k. End.At k) End.Refused l (endGot x l) ≡ x
       back (End.At k) h = ap End.At (gone k l h)
       back (End.Refused e) h = refl
 
-  -- ---- the whole body
+-- ---- the whole body
 
+module _ (l : List ℕ) where
   begin-unique : (h : BodyHead) (m n : ℕ) → FramesAt l h m → FramesAt l h n → m ≡ n
   begin-unique h m n a b =
       let e : drop m l ≡ drop n l = let p = a .head in let q = b .head in cc in

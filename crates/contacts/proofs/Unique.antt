@@ -5,17 +5,28 @@ use mathlib.Core.Path.{_≡_, sym, _∙_}
 use mathlib.Core.Bool.{Bool, false}
 use mathlib.Core.List.{List}
 use Rattle.formats.specs.Format.{Got}
+use Rattle.formats.specs.Answer.{Answers}
 use Rattle.house.specs.declared.Contact.{Contact}
+use Rattle.touch.specs.Answer.{contactGot, contactLength}
+use Rattle.touch.specs.declared.ReadContact.{ReadContact}
+use Rattle.touch.proofs.Unique.{contact-answer-unique}
 use Rattle.machine.specs.Table.{Table}
 use Rattle.machine.specs.Rules.{Rules}
 use Rattle.machine.specs.Machine.{Machine, opening}
 use Rattle.contacts.specs.Touch.{touchView}
-use Rattle.contacts.specs.Ruling.{CountsActive, Counted, ofRead, Judges, Decides}
+use Rattle.contacts.specs.Ruling.{source, CountsActive, Counted, ofRead, Judges, Decides}
 use Rattle.contacts.specs.declared.Judged.{Judged}
 use Rattle.contacts.specs.declared.Ruling.{Ruling}
 
 pub count-active-unique : (states : List ℕ) (a b : ℕ) → CountsActive states a → CountsActive states b → a ≡ b
 count-active-unique states a b e f = e .same ∙ sym (f .same)
+
+pub active-in-unique : (states : List ℕ) (a b : ℕ) → Counted a states → Counted b states → a ≡ b
+active-in-unique states a b e f = e .same ∙ sym (f .same)
+
+pub read-contact-unique : (recorded : Bool) (l : List ℕ) (a b : ReadContact)
+    → Answers (source recorded) l (contactGot a l) (contactLength a) → Answers (source recorded) l (contactGot b l) (contactLength b) → a ≡ b
+read-contact-unique recorded = contact-answer-unique (source recorded)
 
 module _ (x : Got (List Contact)) where
   pub is-opening-unique : (a b : Bool) → a ≡ ofRead false (opening touchView) x → b ≡ ofRead false (opening touchView) x → a ≡ b

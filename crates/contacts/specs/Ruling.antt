@@ -1,4 +1,4 @@
--- What the code answers for a frame: of the contacts as they are read from a message, and of a table as it is lent.
+-- What the code answers for a frame: of the contacts as they are read, and of a table as it is lent.
 use Prim.Native.Nat.{ℕ, _+_, _≤_}
 use mathlib.Core.Path.{_≡_}
 use mathlib.Core.Bool.{Bool, true, false, cond}
@@ -6,11 +6,12 @@ use mathlib.Core.List.{List, [], _∷_}
 use lib.Dec.{leb}
 use lib.IntN.{ℤ}
 use lib.ListN.{length, getD, take}
-use Rattle.formats.specs.Format.{Got, got, bad, times}
+use Rattle.formats.specs.Format.{Got, got, bad, Format, times}
 use Rattle.fields.specs.Integers.{taken}
 use Rattle.states.specs.Table.{out, next}
 use Rattle.house.specs.declared.Contact.{Contact}
 use Rattle.touch.specs.Touch.{contact}
+use Rattle.recordings.specs.Records.{contactRecord}
 use Rattle.machine.specs.Table.{Table, contacts, active, one, countActive}
 use Rattle.machine.specs.Rules.{Rules}
 use Rattle.machine.specs.Conforms.{every, distinct, legal, stays, tableAfter, conforms}
@@ -21,9 +22,17 @@ use Rattle.contacts.specs.declared.Judged.{Judged}
 use Rattle.contacts.specs.declared.Ruling.{Ruling}
 use Rattle.contacts.specs.declared.Ruling.the-variants as Ruling
 
--- the n contacts at the front of a list of bytes
+-- where contacts are read: in the records of frames, or in a message
+abbrev pub source : Bool → Format Contact
+source recorded = cond recorded contactRecord (contact taken)
+
+-- the n contacts of a format at the front of a list of bytes
+abbrev pub contactsBy : Format Contact → ℕ → List ℕ → Got (List Contact)
+contactsBy format n l = times n format .read l
+
+-- .. of a message
 abbrev pub contactsOf : ℕ → List ℕ → Got (List Contact)
-contactsOf n l = times n (contact taken) .read l
+contactsOf n l = contactsBy (contact taken) n l
 
 -- what is said of the contacts that are read, and z where they are not all there
 abbrev pub ofRead : {A : Type 0} → A → (List Contact → A) → Got (List Contact) → A

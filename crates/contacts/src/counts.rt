@@ -2,7 +2,7 @@
 ghost use mathlib.Core.Path.{_≡_};
 ghost use Prim.Native.Nat.{_≤_};
 ghost use Rattle.machine.specs.Table.{active, one};
-ghost use Rattle.contacts.specs.Ruling.{CountsActive};
+ghost use Rattle.contacts.specs.Ruling.{CountsActive, Counted};
 
 // A state counts as one where it is active.
 pub(crate) fn one_if_active(state: u8) -> u16
@@ -27,4 +27,11 @@ pub fn count_active(states: &[u8; 256]) -> u16
         i += 1;
     }
     n
+}
+
+// The same, of contacts that are copied: so a caller knows that they are 256.
+pub fn active_in(states: [u8; 256]) -> u16
+    ensures { λ r. ⌜ Counted r states ⌝ }
+{
+    count_active(&states)
 }

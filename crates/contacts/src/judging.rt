@@ -9,7 +9,7 @@ ghost use mathlib.Core.Bool.{true, false, cond};
 ghost use Prim.Native.Nat.{_+_, _-_, _≤_};
 ghost use Rattle.machine.specs.Machine.{opening};
 ghost use Rattle.contacts.specs.Touch.{touchView, touchRules};
-ghost use Rattle.contacts.specs.Ruling.{contactsOf, ofRead, tableFrom, judgedAs, Judges, Decides};
+ghost use Rattle.contacts.specs.Ruling.{source, contactsBy, contactsOf, ofRead, tableFrom, judgedAs, Judges, Decides};
 
 // At most so many contacts are active after the frame.
 fn settle(found: Survey, active: u16, most: u16) -> Judged
@@ -36,19 +36,20 @@ fn settle(found: Survey, active: u16, most: u16) -> Judged
     }
 }
 
-// Whether a frame of n contacts conforms, of a table with so many active contacts.
+// Whether a frame of n contacts conforms, read in records or in a message, of a table with so many active contacts.
 pub fn judge(
     rest: &[u8],
     n: u16,
+    recorded: bool,
     states: &[u8; 256],
     xs: &[i32; 256],
     ys: &[i32; 256],
     most: u16,
     active: u16,
 ) -> Judged
-    ensures { λ r. ⌜ Judges (touchRules most) (tableFrom (now (states .entry)) (now (xs .entry)) (now (ys .entry))) active (contactsOf n (now (rest .entry))) r ⌝ }
+    ensures { λ r. ⌜ Judges (touchRules most) (tableFrom (now (states .entry)) (now (xs .entry)) (now (ys .entry))) active (contactsBy (source recorded) n (now (rest .entry))) r ⌝ }
 {
-    let found = survey(rest, n, states, xs, ys);
+    let found = survey(rest, n, recorded, states, xs, ys);
     if found.lawful {
         return settle(found, active, most);
     }
@@ -82,7 +83,7 @@ pub fn verdict_of(
     ensures { λ r. ⌜ Decides (touchRules most) (record { table = tableFrom (now (states .entry)) (now (xs .entry)) (now (ys .entry)); running = running }) active (contactsOf n (now (rest .entry))) r ⌝ }
 {
     if is_judged(running, rest, n) {
-        let judged = judge(rest, n, states, xs, ys, most, active);
+        let judged = judge(rest, n, false, states, xs, ys, most, active);
         if judged.conforms {
             return Ruling::Injected(judged.active);
         }

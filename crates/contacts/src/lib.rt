@@ -3,11 +3,14 @@ mod counts;
 mod judging;
 mod rules;
 mod scan;
+mod source;
 
+pub use counts::active_in;
 pub use counts::count_active;
 pub use judging::judge;
 pub use judging::verdict_of;
 pub use rules::is_opening;
+pub use source::read_contact;
 
 // What one pass over a frame's contacts finds: whether the rules of single contacts hold and no id is there twice; and how many of
 // them are active after the frame, and how many were before: 0 and 0 where a rule is broken.

@@ -2,9 +2,10 @@
 use crate::Survey;
 use crate::counts::one_if_active;
 use crate::rules::is_allowed;
+use crate::source::read_contact;
 use touch::ReadContact;
 ghost use mathlib.Core.Path.{_≡_};
-ghost use Rattle.contacts.specs.Ruling.{contactsOf, ofRead, unlawful, surveyed};
+ghost use Rattle.contacts.specs.Ruling.{source, contactsBy, ofRead, unlawful, surveyed};
 
 // A frame that breaks a rule.
 fn broken() -> Survey
@@ -21,11 +22,12 @@ fn broken() -> Survey
 pub(crate) fn survey(
     rest: &[u8],
     n: u16,
+    recorded: bool,
     states: &[u8; 256],
     xs: &[i32; 256],
     ys: &[i32; 256],
 ) -> Survey
-    ensures { λ r. ⌜ r ≡ ofRead unlawful (surveyed (now (states .entry)) (now (xs .entry)) (now (ys .entry))) (contactsOf n (now (rest .entry))) ⌝ }
+    ensures { λ r. ⌜ r ≡ ofRead unlawful (surveyed (now (states .entry)) (now (xs .entry)) (now (ys .entry))) (contactsBy (source recorded) n (now (rest .entry))) ⌝ }
 {
     let mut seen = [false; 256];
     let mut came: u16 = 0;
@@ -33,7 +35,7 @@ pub(crate) fn survey(
     let mut at: usize = 0;
     let mut left = n;
     while 0 < left {
-        let got = touch::read_contact(&rest[at..]);
+        let got = read_contact(&rest[at..], recorded);
         let ReadContact::Value(contact, k) = got else {
             return broken();
         };

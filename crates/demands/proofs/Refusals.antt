@@ -28,8 +28,8 @@ use Rattle.touch.specs.Limits.{mostFrames}
 use Rattle.touch.specs.Touch.{Touch}
 use Rattle.reading.specs.Plain.{plainly, draftOf, timeOf, ReadsPlainly, refusal as plainRefusal, answered as plainAnswered}
 use Rattle.reading.specs.declared.PlainAnswer.{PlainAnswer}
-use Rattle.writing.specs.Records.{framesIn}
-use Rattle.writing.specs.TouchDraft.{messageOf, framesDraft, recordsDraft, touchDraft}
+use Rattle.writing.specs.TouchDraft.{messageOf, framesDraft, checkedFrames, touchDraft, draftOf as touchDraftOf}
+use Rattle.writing.proofs.Checked.{checked-tame}
 use Rattle.receiver.specs.Receive.{Effect, judged, effect, answerOf, receiverAfter, answerAfter, Receives, draftOf as effectDraft, refusal as receiverRefusal}
 use Rattle.receiver.specs.declared.Receiver.{Receiver}
 use Rattle.receiver.specs.declared.Answer.{Answer}
@@ -87,11 +87,11 @@ touch-refuses : (time : Milliseconds) (records : List ℕ) → Refuses touchNumb
 unfolding touchDraft framesDraft oneOf
 touch-refuses time records =
     a-writer's-refusal-changes-nothing touchNumbers (touchDraft time records) refl
-    (by-test touchNumbers (ltb (time .0) (limit 2 0)) _ _ (by (framesIn records)) refl)
+    (by (checkedFrames time records) (checked-tame time records _ refl refl))
   where
-    by : (x : Got (List (Frame Contact))) → Within touchNumbers (recordsDraft time x)
-    by (bad e) = refl
-    by (got fs t) =
+    by : (x : Got (List (Frame Contact))) → Tame (λ e. oneOf touchNumbers e ≡ true) x → Within touchNumbers (touchDraftOf time x)
+    by (bad e) h = h
+    by (got fs t) h =
         by-test touchNumbers (leb (length fs) mostFrames) _ _
         (by-test touchNumbers (leb (length (messageOf time fs)) mostBytes) _ _ tt refl) refl
 

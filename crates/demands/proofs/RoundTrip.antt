@@ -5,11 +5,11 @@ use mathlib.Core.Path.{_≡_, refl, sym, ap, _∙_}
 use mathlib.Core.Bool.{Bool, true, false, cond}
 use mathlib.Core.List.{List, [], _∷_}
 use native.Mathlib.Omega.{arith}
-use lib.Dec.{leb, ltb}
+use lib.Dec.{leb}
 use lib.ListN.{length, take, drop}
 use lib.Seq.{take-at}
 use borrow.Author.Tests.{leb-true, leb-false}
-use Rattle.paper.specs.Refusals.{none, noRoom, badRange, badCount, tooLong, badField, trailing}
+use Rattle.paper.specs.Refusals.{none, noRoom, badCount, tooLong, badField, trailing}
 use Rattle.paper.specs.declared.Milliseconds.{Milliseconds}
 use Rattle.digits.specs.Digits.{Bytes}
 use Rattle.slices.specs.Writing.{Draft, bytes, refuse, given, answered, left, Writes}
@@ -17,7 +17,6 @@ use Rattle.slices.specs.declared.Written.{Written}
 use Rattle.slices.proofs.Laws.{given-room, given-none, given-refuse, writes-done}
 use Rattle.formats.specs.Format.{Got, got, bad, andThen, Format, ended, whole, byte}
 use Rattle.formats.specs.Answer.{refusalOf}
-use Rattle.integers.specs.Integer.{limit}
 use Rattle.house.specs.Fields.{recordBytes}
 use Rattle.house.specs.declared.Contact.{Contact}
 use Rattle.messages.specs.Header.{oneOf, headed, readMessage, serverReady, clientReady, suspend, resume, dismiss, mostBytes}
@@ -35,8 +34,8 @@ use Rattle.touch.specs.Touch.{Touch, touchRecord}
 use Rattle.reading.specs.Plain.{plainly, draftOf, timeOf, ReadsPlainly}
 use Rattle.reading.specs.Plain as plain
 use Rattle.reading.specs.declared.PlainAnswer.{PlainAnswer}
-use Rattle.writing.specs.Records.{framesIn}
-use Rattle.writing.specs.TouchDraft.{messageOf, framesDraft, recordsDraft, touchDraft}
+use Rattle.writing.specs.TouchDraft.{messageOf, framesDraft, checkedFrames, touchDraft, draftOf as touchDraftOf}
+use Rattle.writing.proofs.Checked.{checked-tame}
 use Rattle.writing.proofs.RoundTrip.{accepted-is-written-back-to-the-same-bytes, written-is-read-back-to-the-same-records-and-time}
 use Rattle.formats.proofs.Refusing.{Tame, and-then, done-tame, whole-tame}
 use Rattle.receiver.proofs.Refusing.{Listed, headed-tame, message-tame}
@@ -138,19 +137,19 @@ tested : (b : Bool) (d : Draft) (n : ℕ) → 1 ≤ n → Named d → Named (con
 tested true d n low h = h
 tested false d n low h = low
 
--- ---- the touch writer's draft: records that are no frames are refused by 14
+-- ---- the touch writer's draft: a time that U4 does not hold is refused by 10, records that are no frames by 14
 
 frames-named : (time : Milliseconds) (fs : List (Frame Contact)) → Named (framesDraft time fs)
 unfolding framesDraft
 frames-named time fs = tested (leb (length fs) mostFrames) _ badCount (omega arith) (tested (leb (length (messageOf time fs)) mostBytes) _ tooLong (omega arith) tt)
 
-records-named : (time : Milliseconds) (x : Got (List (Frame Contact))) → Named (recordsDraft time x)
-records-named time (got fs t) = frames-named time fs
-records-named time (bad n) = omega arith
+checked-named : (time : Milliseconds) (x : Got (List (Frame Contact))) → Tame (λ n. 1 ≤ n) x → Named (touchDraftOf time x)
+checked-named time (got fs t) h = frames-named time fs
+checked-named time (bad n) h = h
 
 touch-named : (time : Milliseconds) (records : List ℕ) → Named (touchDraft time records)
 unfolding touchDraft
-touch-named time records = tested (ltb (time .0) (limit 2 0)) _ badRange (omega arith) (records-named time (framesIn records))
+touch-named time records = checked-named time (checkedFrames time records) (checked-tame time records _ (omega arith) (omega arith))
 
 -- ---- touch messages
 

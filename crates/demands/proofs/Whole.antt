@@ -43,7 +43,7 @@ use Rattle.stream.proofs.Kept.{timed-fit}
 use Rattle.stream.proofs.Paths.{cancel-small}
 use Rattle.reading.specs.Plain.{plainly, ReadsPlainly}
 use Rattle.reading.specs.declared.PlainAnswer.{PlainAnswer}
-use Rattle.writing.proofs.Records.{kind-touched}
+use Rattle.recordings.proofs.Records.{kind-touched}
 use Rattle.receiver.specs.Receive.{machineOf, fresh, untimed}
 use Rattle.receiver.specs.History.{touchProfile}
 use Rattle.receiver.specs.declared.Receiver.{Receiver}

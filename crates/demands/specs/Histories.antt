@@ -22,7 +22,8 @@ use Rattle.contacts.specs.Touch.{touchView}
 use Rattle.stream.specs.Stream.{opens, unopened, NoneActive}
 use Rattle.stream.specs.Path.{at}
 use Rattle.stream.specs.Asked.{All}
-use Rattle.receiver.specs.Receive.{off, fresh, Receives}
+use Rattle.receiver.specs.Receive.{fresh, Receives}
+use Rattle.channel.specs.Marks.{off}
 use Rattle.receiver.specs.History.{Outcome, tableOf, touchIn, framesOf, machineAt, bytesAt, CancelledAfter, Silent, rested, messageOf, Cut, recordsIn, path}
 use Rattle.receiver.specs.declared.Receiver.{Receiver}
 use Rattle.receiver.specs.declared.Answer.{Answer}

@@ -3,6 +3,7 @@ pub mod Timed
 pub mod Laws
 pub mod Order
 pub mod Reading
+pub mod Judged
 pub mod Tail
 pub mod Begun
 pub mod Least

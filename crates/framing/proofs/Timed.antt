@@ -30,3 +30,9 @@ module _ {C : Type 0} (untimed : Bool) where
   pub timed-length : (fs : List (Frame C)) → length (timedFrames untimed fs) ≡ length fs
   unfolding timedFrames
   timed-length fs = length-map fs (timedFrame untimed)
+
+-- with their offsets they are as they were
+pub timed-same : {C : Type 0} (fs : List (Frame C)) → timedFrames false fs ≡ fs
+unfolding timedFrames
+timed-same [] = refl
+timed-same {C} (f ∷ fs) = ap (λ (gs : List (Frame C)). f ∷ gs) (timed-same fs)

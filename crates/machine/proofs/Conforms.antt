@@ -1,7 +1,7 @@
 -- When a frame conforms, contact by contact; and what a frame of distinct ids leaves.
 -- Assumes nothing.
 use Prim.Native.Nat.{ℕ, _+_, _<_}
-use mathlib.Core.Path.{_≡_, refl, ap}
+use mathlib.Core.Path.{_≡_, refl, ap, _∙_}
 use mathlib.Core.Bool.{Bool, true, false, cond, not}
 use mathlib.Core.List.{List, [], _∷_}
 use native.Mathlib.Omega.{arith}
@@ -11,7 +11,7 @@ use lib.ListN.{length, length-set}
 use Rattle.states.specs.Table.{illegal}
 use Rattle.machine.specs.Table.{Table, contacts, stateAt, placeAt, withContact, active, one, countActive}
 use Rattle.machine.specs.Rules.{View}
-use Rattle.machine.specs.Conforms.{every, otherId, distinct, nextOf, legal, stays, placeIn, moved}
+use Rattle.machine.specs.Conforms.{every, otherId, distinct, nextOf, legal, stays, placeIn, moved, tableAfter}
 use Rattle.machine.proofs.Table.{state-other, place-other, count-set}
 
 -- ---- both of two tests
@@ -115,3 +115,9 @@ module _ {C : Type 0} (view : View C) where
       pub moved-long : length (moved view next t c .states) ≡ length (t .states)
       unfolding moved withContact
       moved-long = length-set (t .states) (view .id c) (nextOf view next t c)
+
+    -- a frame leaves a table as long as it was
+    pub after-long : (t : Table) (cs : List C) → length (tableAfter view next t cs .states) ≡ length (t .states)
+    unfolding tableAfter
+    after-long t [] = refl
+    after-long t (c ∷ cs) = after-long (moved view next t c) cs ∙ moved-long t c

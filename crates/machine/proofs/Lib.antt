@@ -2,3 +2,4 @@
 pub mod Table
 pub mod Conforms
 pub mod Machine
+pub mod Conforming

@@ -109,3 +109,8 @@ module _ {C : Type 0} (view : View C) where
   unfoldable pub runCounts : Rules C → Machine → List (Frame C) → Counts
   runCounts rules m [] = none
   runCounts rules m (f ∷ fs) = plus (countOf (verdict rules m (f .contacts))) (runCounts rules (stepMachine rules m f) fs)
+
+  -- every frame conforms, each from what the one before leaves
+  unfoldable pub allConform : Rules C → Machine → List (Frame C) → Bool
+  allConform rules m [] = true
+  allConform rules m (f ∷ fs) = cond (conforms view rules (m .table) (f .contacts)) (allConform rules (stepMachine rules m f) fs) false

@@ -2,14 +2,13 @@
 -- Assumes nothing.
 use Prim.Native.Nat.{ℕ, _+_, _^_, _≤_, _<_}
 use mathlib.Core.Path.{_≡_, refl, sym, ap, _∙_}
-use mathlib.Core.Bool.{Bool, true, false, cond}
 use mathlib.Core.List.{List, []}
-use native.Mathlib.Omega.{arith}
 use lib.Dec.{lit<, lit≤}
 use lib.ListN.{length}
 use Rattle.paper.specs.Refusals.{badField}
 use Rattle.digits.specs.Digits.{Bytes}
-use Rattle.slices.specs.Writing.{Draft, bytes, refuse}
+use Rattle.slices.specs.Writing.{Draft, bytes}
+use Rattle.slices.proofs.Drafts.{passed}
 use Rattle.formats.specs.Format.{got, Format, byte, writeLittle}
 use Rattle.formats.proofs.Laws.{Law}
 use Rattle.messages.specs.Header.{headerBytes, mostBytes, serverReady, clientReady, suspend, resume, dismiss, readMessage, writeMessage}
@@ -43,11 +42,6 @@ trip e f draft Fit law he d =
           (d .fits a k, d .draws a k ∙ ap bytes (sym (message-exact f law e tt l a t hl h)));
     }
 
--- a draft that is bytes passed its test
-passed : (b : Bool) (d : Draft) (s : List ℕ) → cond b d (refuse badField) ≡ bytes s → (b ≡ true) × (d ≡ bytes s)
-passed true d s w = (refl, w)
-passed false d s w = absurd (let z : _≡_ {A = ℕ} 0 1 = cc in omega arith)
-
 -- ---- the five
 
 -- what the types of the code hold
@@ -68,7 +62,7 @@ unfolding serverReadyDraft writeLittle
 server-drawn =
     record {
       long = λ v. lit≤ tt;
-      holds = λ v s h w. (h, passed (versionListed v) _ s w .0);
+      holds = λ v s h w. (h, passed (versionListed v) _ badField s w .0);
       fits = λ v h. h .0;
       draws = λ v h. server-draft v (h .1);
     }
@@ -79,8 +73,8 @@ client-drawn =
     record {
       long = λ r. lit≤ tt;
       holds = λ r s h w.
-          let f = passed (flagsListed (r .flags)) _ s w in
-          let v = passed (versionListed (r .version)) _ s (f .1) in
+          let f = passed (flagsListed (r .flags)) _ badField s w in
+          let v = passed (versionListed (r .version)) _ badField s (f .1) in
           ((h .0, f .0), ((h .1, v .0), (h .2, refl)));
       fits = λ r h. (h .0 .0, h .1 .0 .0, h .1 .1 .0);
       draws = λ r h. client-draft r (h .0 .1) (h .1 .0 .1);

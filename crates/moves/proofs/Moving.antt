@@ -7,17 +7,15 @@ use native.Mathlib.Numerals.{sub-one}
 use native.Mathlib.Omega.{arith}
 use borrow.Author.Tests.{eq-eqb, ne-eqb}
 use lib.ListN.{length, drop}
-use Rattle.formats.specs.Format.{Got, got, bad, andThen, readSeries}
+use Rattle.formats.specs.Format.{Got, got, bad, andThen, Format, readSeries}
 use Rattle.formats.specs.Answer.{skipped}
 use Rattle.formats.proofs.Steps.{Stepped}
-use Rattle.fields.specs.Integers.{taken}
 use Rattle.states.specs.Table.{out, next}
 use Rattle.house.specs.declared.Contact.{Contact}
-use Rattle.touch.specs.Touch.{contact}
 use Rattle.machine.specs.Table.{Table, withContact, origin}
 use Rattle.machine.specs.Conforms.{nextOf, moved, tableAfter}
 use Rattle.contacts.specs.Touch.{touchView}
-use Rattle.contacts.specs.Ruling.{contactsOf}
+use Rattle.contacts.specs.Ruling.{contactsBy}
 use Rattle.moves.specs.Moves.{onRead, afterRead, Moves, EndsAt, Ends, Applies}
 
 -- ---- one contact
@@ -31,27 +29,7 @@ module _ (t u : Table) (c : Contact) (s : ℕ) (stepped : s ≡ nextOf touchView
   unfolding moved
   moves-in o e = e ∙ rw (← stepped, ne-eqb s out o)
 
--- ---- one turn of a loop over the contacts
-
-module _ (t : Table) where
-  pub read-end : (k : ℕ) (l : List ℕ) → k ≤ 0 → afterRead k t l ≡ t
-  unfolding afterRead
-  read-end zero l h = refl
-  read-end (suc k) l h = absurd (omega arith)
-
-  pub read-bad : (k : ℕ) (l : List ℕ) (e : ℕ) → 0 < k → contact taken .read l ≡ bad e → afterRead k t l ≡ t
-  unfolding afterRead
-  read-bad zero l e h w = absurd (omega arith)
-  read-bad (suc k) l e h w = rw w
-
--- a contact stored, and the others still to be read
-pub read-on : (t u : Table) (k at end : ℕ) (s : List ℕ) (c : Contact) → 0 < k → Stepped (contact taken) s at c end → Moves c t u
-    → afterRead (k - 1) u (drop end s) ≡ afterRead k t (drop at s)
-unfolding afterRead
-read-on t u zero at end s c h w m = absurd (omega arith)
-read-on t u (suc k) at end s c h w m = rw (w .reads, sub-one, m)
-
--- ---- contacts that can all be read: what is left is what the frame leaves
+-- ---- contacts that are read one after the other, in whatever format
 
 never : {A B : Type 0} (e : ℕ) (a : A) (l : List ℕ) → bad e ≡ got a l → B
 never e a l h = absurd (let z : _≡_ {A = ℕ} 0 1 = cc in omega arith)
@@ -59,48 +37,71 @@ never e a l h = absurd (let z : _≡_ {A = ℕ} 0 1 = cc in omega arith)
 same : {A : Type 0} (a b : A) (l m : List ℕ) → got a l ≡ got b m → a ≡ b
 same a b l m h = cc
 
-abbrev Leads : ℕ → Type 0
-Leads n = (t : Table) (l : List ℕ) (cs : List Contact) (rest : List ℕ) → contactsOf n l ≡ got cs rest → afterRead n t l ≡ tableAfter touchView next t cs
+module _ (format : Format Contact) where
+  -- ---- one turn of a loop over the contacts
 
-one-more : (n : ℕ) → Leads n → Leads (suc n)
-unfolding afterRead tableAfter readSeries
-one-more n leads t l cs rest e = first (contact taken .read l) e
-  where
-    others : (c : Contact) (m : List ℕ) (y : Got (List Contact)) → contactsOf n m ≡ y → andThen y (λ ds v. got (c ∷ ds) v) ≡ got cs rest
-        → afterRead n (moved touchView next t c) m ≡ tableAfter touchView next t cs
-    others c m (got ds v) q h = leads (moved touchView next t c) m ds v q ∙ ap (tableAfter touchView next t) (same (c ∷ ds) cs v rest h)
-    others c m (bad x) q h = never x cs rest h
+  module _ (t : Table) where
+    pub read-end : (k : ℕ) (l : List ℕ) → k ≤ 0 → afterRead format k t l ≡ t
+    unfolding afterRead
+    read-end zero l h = refl
+    read-end (suc k) l h = absurd (omega arith)
 
-    first : (x : Got Contact) → andThen x (λ c m. andThen (contactsOf n m) (λ ds v. got (c ∷ ds) v)) ≡ got cs rest
-        → onRead t (λ c m. afterRead n (moved touchView next t c) m) x ≡ tableAfter touchView next t cs
-    first (got c m) h = others c m (contactsOf n m) refl h
-    first (bad x) h = never x cs rest h
+    pub read-bad : (k : ℕ) (l : List ℕ) (e : ℕ) → 0 < k → format .read l ≡ bad e → afterRead format k t l ≡ t
+    unfolding afterRead
+    read-bad zero l e h w = absurd (omega arith)
+    read-bad (suc k) l e h w = rw w
 
-read-all : (n : ℕ) → Leads n
-unfolding afterRead tableAfter readSeries
-read-all zero t l cs rest e = ap (tableAfter touchView next t) (same [] cs l rest e)
-read-all (suc n) t l cs rest e = one-more n (read-all n) t l cs rest e
+  -- a contact stored, and the others still to be read
+  pub read-on : (t u : Table) (k at end : ℕ) (s : List ℕ) (c : Contact) → 0 < k → Stepped format s at c end → Moves c t u
+      → afterRead format (k - 1) u (drop end s) ≡ afterRead format k t (drop at s)
+  unfolding afterRead
+  read-on t u zero at end s c h w m = absurd (omega arith)
+  read-on t u (suc k) at end s c h w m = rw (w .reads, sub-one, m)
 
-pub applies-after : (n : ℕ) (l : List ℕ) (end : ℕ) (t u : Table) (cs : List Contact) (rest : List ℕ) → Applies n l end t u → contactsOf n l ≡ got cs rest
-    → u ≡ tableAfter touchView next t cs
-applies-after n l end t u cs rest h e = h .table ∙ read-all n t l cs rest e
+  -- ---- contacts that can all be read: what is left is what the frame leaves
 
--- ---- where they end
+  abbrev Leads : ℕ → Type 0
+  Leads n = (t : Table) (l : List ℕ) (cs : List Contact) (rest : List ℕ) → contactsBy format n l ≡ got cs rest → afterRead format n t l ≡ tableAfter touchView next t cs
 
-module _ (n : ℕ) (l : List ℕ) where
-  pub ends-got : (end : ℕ) → got tt (drop end l) ≡ skipped (contactsOf n l) → end ≤ length l → Ends n l end
-  ends-got end e h = record { ends = go (contactsOf n l) e; inside = h }
+  one-more : (n : ℕ) → Leads n → Leads (suc n)
+  unfolding afterRead tableAfter readSeries
+  one-more n leads t l cs rest e = first (format .read l) e
     where
-      go : (x : Got (List Contact)) → got tt (drop end l) ≡ skipped x → EndsAt x l end
-      go (got cs t) e = cc
-      go (bad x) e = never x tt (drop end l) (sym e)
+      others : (c : Contact) (m : List ℕ) (y : Got (List Contact)) → contactsBy format n m ≡ y → andThen y (λ ds v. got (c ∷ ds) v) ≡ got cs rest
+          → afterRead format n (moved touchView next t c) m ≡ tableAfter touchView next t cs
+      others c m (got ds v) q h = leads (moved touchView next t c) m ds v q ∙ ap (tableAfter touchView next t) (same (c ∷ ds) cs v rest h)
+      others c m (bad x) q h = never x cs rest h
 
-  pub ends-bad : (e : ℕ) → bad e ≡ skipped (contactsOf n l) → Ends n l 0
-  ends-bad e h = record { ends = go (contactsOf n l) h; inside = omega arith }
-    where
-      go : (x : Got (List Contact)) → bad e ≡ skipped x → EndsAt x l 0
-      go (got cs t) h = never e tt t h
-      go (bad x) h = refl
+      first : (x : Got Contact) → andThen x (λ c m. andThen (contactsBy format n m) (λ ds v. got (c ∷ ds) v)) ≡ got cs rest
+          → onRead t (λ c m. afterRead format n (moved touchView next t c) m) x ≡ tableAfter touchView next t cs
+      first (got c m) h = others c m (contactsBy format n m) refl h
+      first (bad x) h = never x cs rest h
 
-pub ends-read : (n : ℕ) (l : List ℕ) (end : ℕ) (cs : List Contact) (t : List ℕ) → Ends n l end → contactsOf n l ≡ got cs t → drop end l ≡ t
-ends-read n l end cs t h e = rw e at (h .ends)
+  read-all : (n : ℕ) → Leads n
+  unfolding afterRead tableAfter readSeries
+  read-all zero t l cs rest e = ap (tableAfter touchView next t) (same [] cs l rest e)
+  read-all (suc n) t l cs rest e = one-more n (read-all n) t l cs rest e
+
+  pub applies-after : (n : ℕ) (l : List ℕ) (end : ℕ) (t u : Table) (cs : List Contact) (rest : List ℕ) → Applies format n l end t u → contactsBy format n l ≡ got cs rest
+      → u ≡ tableAfter touchView next t cs
+  applies-after n l end t u cs rest h e = h .table ∙ read-all n t l cs rest e
+
+  -- ---- where they end
+
+  module _ (n : ℕ) (l : List ℕ) where
+    pub ends-got : (end : ℕ) → got tt (drop end l) ≡ skipped (contactsBy format n l) → end ≤ length l → Ends format n l end
+    ends-got end e h = record { ends = go (contactsBy format n l) e; inside = h }
+      where
+        go : (x : Got (List Contact)) → got tt (drop end l) ≡ skipped x → EndsAt x l end
+        go (got cs t) e = cc
+        go (bad x) e = never x tt (drop end l) (sym e)
+
+    pub ends-bad : (e : ℕ) → bad e ≡ skipped (contactsBy format n l) → Ends format n l 0
+    ends-bad e h = record { ends = go (contactsBy format n l) h; inside = omega arith }
+      where
+        go : (x : Got (List Contact)) → bad e ≡ skipped x → EndsAt x l 0
+        go (got cs t) h = never e tt t h
+        go (bad x) h = refl
+
+  pub ends-read : (n : ℕ) (l : List ℕ) (end : ℕ) (cs : List Contact) (t : List ℕ) → Ends format n l end → contactsBy format n l ≡ got cs t → drop end l ≡ t
+  ends-read n l end cs t h e = rw e at (h .ends)

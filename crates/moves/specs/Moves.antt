@@ -1,4 +1,4 @@
--- What the calls leave of a table of contacts: a frame as it is read from a message, and a dismissal by the room that it was lent.
+-- What the calls leave of a table of contacts: a frame's contacts as they are read, and a dismissal by the room that it was lent.
 use Prim.Native.Nat.{ℕ, zero, suc, _≤_}
 use mathlib.Core.Path.{_≡_}
 use mathlib.Core.Bool.{cond}
@@ -7,16 +7,14 @@ use lib.Dec.{leb}
 use lib.ListN.{length, drop}
 use Rattle.slices.specs.Writing.{bytes, Writes}
 use Rattle.slices.specs.declared.Written.{Written}
-use Rattle.formats.specs.Format.{Got, got, bad}
-use Rattle.fields.specs.Integers.{taken}
+use Rattle.formats.specs.Format.{Got, got, bad, Format}
 use Rattle.states.specs.Table.{next}
 use Rattle.house.specs.declared.Contact.{Contact}
-use Rattle.touch.specs.Touch.{contact}
 use Rattle.machine.specs.Table.{Table}
 use Rattle.machine.specs.Conforms.{moved}
 use Rattle.machine.specs.Machine.{dismissTable, dismissBytes}
 use Rattle.contacts.specs.Touch.{touchView}
-use Rattle.contacts.specs.Ruling.{contactsOf}
+use Rattle.contacts.specs.Ruling.{contactsBy}
 
 -- what a value and the bytes after it lead to, and z where there is none
 abbrev pub onRead : {A B : Type 0} → B → (A → List ℕ → B) → Got A → B
@@ -24,9 +22,9 @@ onRead z f (got a t) = f a t
 onRead z f (bad e) = z
 
 -- what n contacts at the front of a list of bytes leave, one after the other; those before the first that cannot be read, where one cannot
-unfoldable pub afterRead : ℕ → Table → List ℕ → Table
-afterRead zero t l = t
-afterRead (suc n) t l = onRead t (λ c rest. afterRead n (moved touchView next t c) rest) (contact taken .read l)
+unfoldable pub afterRead : Format Contact → ℕ → Table → List ℕ → Table
+afterRead format zero t l = t
+afterRead format (suc n) t l = onRead t (λ c rest. afterRead format n (moved touchView next t c) rest) (format .read l)
 
 -- one contact stored
 abbrev pub Moves : Contact → Table → Table → Type 0
@@ -37,14 +35,14 @@ abbrev pub EndsAt : Got (List Contact) → List ℕ → ℕ → Type 0
 EndsAt (got cs t) l end = drop end l ≡ t
 EndsAt (bad e) l end = end ≡ 0
 
-pub record Ends (n : ℕ) (l : List ℕ) (end : ℕ) : Type 0 where
-  pub ends : EndsAt (contactsOf n l) l end
+pub record Ends (format : Format Contact) (n : ℕ) (l : List ℕ) (end : ℕ) : Type 0 where
+  pub ends : EndsAt (contactsBy format n l) l end
   pub inside : end ≤ length l
 
 -- the n contacts at the front of l stored
-pub record Applies (n : ℕ) (l : List ℕ) (end : ℕ) (before after : Table) : Type 0 where
-  pub table : after ≡ afterRead n before l
-  pub passed : Ends n l end
+pub record Applies (format : Format Contact) (n : ℕ) (l : List ℕ) (end : ℕ) (before after : Table) : Type 0 where
+  pub table : after ≡ afterRead format n before l
+  pub passed : Ends format n l end
 
 -- a dismissal that finds too little room leaves the table as it was
 unfoldable pub dismissedIn : ℕ → Table → ℕ → Table

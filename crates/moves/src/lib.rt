@@ -7,3 +7,4 @@ pub use records::write_cancels;
 pub use table::apply;
 pub use table::move_contact;
 pub use table::rest_all;
+pub use table::store;

@@ -4,11 +4,11 @@ use house::Point;
 use touch::ReadContact;
 ghost use mathlib.Core.Path.{_≡_};
 ghost use Rattle.machine.specs.Table.{withContact, resting};
-ghost use Rattle.contacts.specs.Ruling.{tableFrom};
+ghost use Rattle.contacts.specs.Ruling.{source, tableFrom};
 ghost use Rattle.moves.specs.Moves.{Moves, Applies};
 
 // A contact's state and position, put for those that it had.
-pub(crate) fn store(
+pub fn store(
     id: u8,
     state: u8,
     place: Point,
@@ -50,16 +50,17 @@ pub fn move_contact(
 pub fn apply(
     rest: &[u8],
     n: usize,
+    recorded: bool,
     states: &mut [u8; 256],
     xs: &mut [i32; 256],
     ys: &mut [i32; 256],
 ) -> usize
-    ensures { λ r. ⌜ Applies n (now (rest .entry)) r (tableFrom (now (states .entry)) (now (xs .entry)) (now (ys .entry))) (tableFrom (now (states .exit)) (now (xs .exit)) (now (ys .exit))) ⌝ }
+    ensures { λ r. ⌜ Applies (source recorded) n (now (rest .entry)) r (tableFrom (now (states .entry)) (now (xs .entry)) (now (ys .entry))) (tableFrom (now (states .exit)) (now (xs .exit)) (now (ys .exit))) ⌝ }
 {
     let mut at: usize = 0;
     let mut left = n;
     while 0 < left {
-        let got = touch::read_contact(&rest[at..]);
+        let got = contacts::read_contact(&rest[at..], recorded);
         let ReadContact::Value(contact, k) = got else {
             return 0;
         };

@@ -1,4 +1,4 @@
--- Document 01, "Refusal numbers and their order".
+-- Document 01, "Refusal numbers and their order"; from 15 on, document 02.
 use Prim.Native.Nat.{ℕ}
 
 -- no refusal
@@ -60,3 +60,15 @@ noRoom = 13
 -- a writer's record not well formed
 abbrev pub badRecord : ℕ
 badRecord = 14
+
+-- client ready before server ready was taken or a second time; touch or dismiss before client ready
+abbrev pub notReady : ℕ
+notReady = 15
+
+-- touch while suspended
+abbrev pub suspended : ℕ
+suspended = 16
+
+-- a frame that would not conform, or a dismissal of a contact not hovering
+abbrev pub illegal : ℕ
+illegal = 17

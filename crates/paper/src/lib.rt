@@ -1,4 +1,4 @@
-// The names of document 01: its refusals by number and the two units of time.
+// The names of documents 01 and 02: their refusals by number, and the two units of time.
 
 // Given when: under 6 bytes.
 pub const SHORT: u8 = 1;
@@ -28,6 +28,12 @@ pub const TRAILING: u8 = 12;
 pub const NO_ROOM: u8 = 13;
 // A writer's record is not well formed.
 pub const BAD_RECORD: u8 = 14;
+// Document 02, #101. Client ready before server ready was taken or a second time; touch or dismiss before client ready.
+pub const NOT_READY: u8 = 15;
+// Touch while suspended.
+pub const SUSPENDED: u8 = 16;
+// A frame that would not conform, or a dismissal of a contact not hovering.
+pub const ILLEGAL: u8 = 17;
 
 // encodeTime (000, 2.2.3.3): milliseconds.
 #[repr(C)]

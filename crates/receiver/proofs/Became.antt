@@ -20,7 +20,8 @@ use Rattle.framing.specs.Frame.{Frame}
 use Rattle.touch.specs.Touch.{Touch, body}
 use Rattle.receiver.specs.declared.Receiver.{Receiver}
 use Rattle.receiver.specs.declared.Answer.{Answer}
-use Rattle.receiver.specs.Receive.{off, judged, takes, Effect, settled, touched, dismissedBy, bodyEffect, effect, draftOf, refusal, answerOf, receiverAfter, answerAfter}
+use Rattle.receiver.specs.Receive.{judged, takes, Effect, settled, touched, dismissedBy, bodyEffect, effect, draftOf, refusal, answerOf, receiverAfter, answerAfter}
+use Rattle.channel.specs.Marks.{off}
 use Rattle.receiver.specs.History.{Sent, next, answerTo, wrote, writtenBy, touchIn, framesOf, framesTaken}
 
 -- ---- before its room is asked: what it does, and the touch message that it is

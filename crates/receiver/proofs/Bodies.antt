@@ -30,7 +30,8 @@ use Rattle.machine.specs.Machine.{dismissBytes}
 use Rattle.moves.specs.Moves.{dismissedIn, Dismisses}
 use Rattle.receiver.specs.declared.Receiver.{Receiver}
 use Rattle.receiver.specs.declared.Received.{Received}
-use Rattle.receiver.specs.Receive.{off, takes, withTable, machineOf, settled, dismissedBy, effect, refusal}
+use Rattle.receiver.specs.Receive.{takes, withTable, machineOf, settled, dismissedBy, effect, refusal}
+use Rattle.channel.specs.Marks.{off}
 use Rattle.receiver.specs.Events.{Gives, readyEffect, touchEffect, dismissEffect}
 use Rattle.receiver.proofs.Answering.{gives-refused, gives-none, gives-done}
 use Rattle.contacts.specs.Touch.{touchView}

@@ -26,7 +26,8 @@ use Rattle.stream.proofs.Steadiness.{none-active-rests}
 use Rattle.stream.proofs.Quiet.{quiet-bytes, quiet-machine}
 use Rattle.stream.proofs.Demand.{a-silent-stream-writes-nothing-until-an-opening-frame, a-silent-stream-passes-over-frames-that-do-not-open}
 use Rattle.stream.proofs.Demand as demand
-use Rattle.receiver.specs.Receive.{off, machineOf, fresh, effect, draftOf, Receives}
+use Rattle.receiver.specs.Receive.{machineOf, fresh, effect, draftOf, Receives}
+use Rattle.channel.specs.Marks.{off}
 use Rattle.receiver.specs.declared.Receiver.{Receiver}
 use Rattle.receiver.specs.declared.Answer.{Answer}
 use Rattle.receiver.specs.History.{Sent, OfBytes, messagesOf, next, answerTo, wrote, after, written, Roomy, tableOf, touchIn, framesTaken, Unopened, rested, machineAt, bytesAt, messageOf, Cut, AsRested, CancelledAfter, Silent, recordsIn, path, touchProfile, streamOf}

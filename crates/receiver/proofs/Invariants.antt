@@ -20,20 +20,21 @@ use Rattle.framing.specs.Frame.{Frame, begunBy}
 use Rattle.touch.specs.Touch.{Touch, body}
 use Rattle.touch.proofs.Ranges.{ContactRead}
 use Rattle.machine.specs.Table.{resting}
-use Rattle.stream.specs.Stream.{Stream}
+use Rattle.stream.specs.Stream.{Stream, frames}
 use Rattle.stream.specs.Asked.{All, FrameFits, Proper, AllProper}
-use Rattle.stream.proofs.Steadiness.{resting-steady}
+use Rattle.stream.proofs.Steadiness.{resting-steady, dismiss-steady}
 use Rattle.stream.proofs.Kept.{next-kept as stream-kept}
 use Rattle.stream.proofs.Kept as stream
 use Rattle.stream.proofs.Demand.{counts-add-up-to-frame-count}
 use Rattle.receiver.specs.declared.Receiver.{Receiver}
 use Rattle.receiver.specs.declared.Answer.{Answer}
-use Rattle.receiver.specs.Receive.{off, mark, machineOf, fresh, touched, judged}
+use Rattle.receiver.specs.Receive.{machineOf, fresh, settled, touched, dismissedBy, judged}
+use Rattle.channel.specs.Marks.{off, mark}
 use Rattle.receiver.specs.History.{Sent, OfBytes, next, answerTo, after, tableOf, framesTaken, touchProfile, streamOf, machineAt}
 use Rattle.receiver.proofs.Became.{Became, became, refused, settles, touches, dismisses}
 use Rattle.receiver.proofs.Fitting.{body-read}
 use Rattle.receiver.proofs.Lawful.{OneOfThree, PlaceFits, Fits, read-fits, touch-law}
-use Rattle.receiver.proofs.Streaming.{fromBecame, givenBy, givens, stream-next}
+use Rattle.receiver.proofs.Streaming.{fromBecame, givens, stream-next, stream-touched}
 
 -- ---- what every message keeps
 
@@ -94,29 +95,44 @@ begun-small begun n h = go (eqb n 0)
     go true = h
     go false = omega arith
 
-became-marked : (r : Receiver) (l : List ℕ) {q : Receiver} {s : List ℕ} {a : Answer} {fs : List (Frame Contact)} → Marked r → Became r l q s a fs → Marked q
-unfolding touched
-became-marked r l k (refused n) = k
-became-marked r l k (settles s o) = record { ready = omega arith; begun = k .begun; ignoring = k .ignoring }
-became-marked r l k (touches m t o e) =
-    record { ready = k .ready; begun = begun-small (r .begun) (length (m .frames)) (k .begun); ignoring = mark-small (not (machineAt r (m .frames) .running)) }
-became-marked r l k (dismisses id t o e) = record { ready = k .ready; begun = k .begun; ignoring = k .ignoring }
+-- each effect keeps it
+pub settled-kept : (r : Receiver) (s : Ready) → off (r .ready) ≡ true → Kept r → Kept (settled r s .receiver)
+settled-kept r s o k =
+    record {
+      stream = resting-steady touch-law (s .most) (machineOf r) (k .unready o);
+      marks = record { ready = omega arith; begun = k .marks .begun; ignoring = k .marks .ignoring };
+      unready = λ u. never u refl;
+    }
 
-became-unready : (r : Receiver) (l : List ℕ) {q : Receiver} {s : List ℕ} {a : Answer} {fs : List (Frame Contact)} → Kept r → Became r l q s a fs → off (q .ready) ≡ true → tableOf q ≡ resting
+pub touched-kept : (r : Receiver) (m : Touch) → off (r .ready) ≡ false → All (FrameFits Fits) (m .frames) → Kept r → Kept (touched r m .receiver)
 unfolding touched
-became-unready r l k (refused n) u = k .unready u
-became-unready r l k (settles s o) u = k .unready o
-became-unready r l k (touches m t o e) u = never u o
-became-unready r l k (dismisses id t o e) u = never u o
+touched-kept r m o f k =
+    record {
+      stream = subst StreamKept (sym (stream-touched r m)) (stream-kept touch-law (streamOf r) (frames (m .frames)) f (k .stream));
+      marks = record {
+        ready = k .marks .ready;
+        begun = begun-small (r .begun) (length (m .frames)) (k .marks .begun);
+        ignoring = mark-small (not (machineAt r (m .frames) .running));
+      };
+      unready = λ u. never u o;
+    }
+
+pub dismissed-kept : (r : Receiver) (id : ℕ) → off (r .ready) ≡ false → Kept r → Kept (dismissedBy r id .receiver)
+dismissed-kept r id o k =
+    record {
+      stream = dismiss-steady touch-law (r .settings .most) (machineOf r) id (k .stream);
+      marks = record { ready = k .marks .ready; begun = k .marks .begun; ignoring = k .marks .ignoring };
+      unready = λ u. never u o;
+    }
+
+became-kept : (r : Receiver) (l : List ℕ) {q : Receiver} {s : List ℕ} {a : Answer} {fs : List (Frame Contact)} → Bytes l → Kept r → Became r l q s a fs → Kept q
+became-kept r l hl k (refused n) = k
+became-kept r l hl k (settles s o) = settled-kept r s o k
+became-kept r l hl k (touches m t o e) = touched-kept r m o (message-fits r l m t hl e) k
+became-kept r l hl k (dismisses id t o e) = dismissed-kept r id o k
 
 pub next-kept : (r : Receiver) (x : Sent) → Bytes (x .message) → Kept r → Kept (next r x)
-next-kept r x hl k =
-    let p = became-proper r (x .message) hl k (became r x) in
-    record {
-      stream = subst StreamKept (sym (stream-next r x)) (stream-kept touch-law (streamOf r) (givenBy r x) p (k .stream));
-      marks = became-marked r (x .message) (k .marks) (became r x);
-      unready = became-unready r (x .message) k (became r x);
-    }
+next-kept r x hl k = became-kept r (x .message) hl k (became r x)
 
 after-kept : (r : Receiver) (h : List Sent) → OfBytes h → Kept r → Kept (after r h)
 unfolding after

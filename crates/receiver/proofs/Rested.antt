@@ -27,7 +27,8 @@ use Rattle.stream.proofs.Steadiness.{none-active-rests}
 use Rattle.stream.proofs.Demand.{from-an-opening-frame-as-if-rested}
 use Rattle.receiver.specs.declared.Receiver.{Receiver}
 use Rattle.receiver.specs.declared.Answer.{Answer}
-use Rattle.receiver.specs.Receive.{off, mark, Effect, judged, touched, effect, refusal, answerOf, receiverAfter, answerAfter, untimed, timeBy}
+use Rattle.receiver.specs.Receive.{Effect, judged, touched, effect, refusal, answerOf, receiverAfter, answerAfter, untimed, timeBy}
+use Rattle.channel.specs.Marks.{off, mark}
 use Rattle.receiver.specs.History.{Sent, next, answerTo, wrote, after, written, outcomes, messagesOf, Roomy, tableOf, touchIn, rested, touchProfile, streamOf, machineAt, bytesAt, Cut, AsRested}
 use Rattle.receiver.proofs.Became.{Does, does, fails, settles, touches, dismisses}
 use Rattle.receiver.proofs.Lawful.{touch-law}

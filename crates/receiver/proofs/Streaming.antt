@@ -15,7 +15,8 @@ use Rattle.stream.specs.Stream.{Stream, Given, nothing, settings, frames, dismi
 use Rattle.stream.specs.Stream as stream
 use Rattle.receiver.specs.declared.Receiver.{Receiver}
 use Rattle.receiver.specs.declared.Answer.{Answer}
-use Rattle.receiver.specs.Receive.{off, mark, machineOf, touched}
+use Rattle.receiver.specs.Receive.{machineOf, touched}
+use Rattle.channel.specs.Marks.{off, mark}
 use Rattle.receiver.specs.History.{Sent, next, wrote, after, written, framesTaken, Unopened, touchProfile, streamOf, machineAt, bytesAt}
 use Rattle.receiver.proofs.Became.{Became, became, refused, settles, touches, dismisses}
 

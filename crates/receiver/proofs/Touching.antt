@@ -35,7 +35,8 @@ use Rattle.runs.specs.declared.Run.{Run}
 use Rattle.receiver.specs.declared.Receiver.{Receiver}
 use Rattle.receiver.specs.declared.Answer.{Answer}
 use Rattle.receiver.specs.declared.Received.{Received}
-use Rattle.receiver.specs.Receive.{off, mark, rulesOf, machineOf, untimed, judged, touched, refusal, answerOf, timeBy}
+use Rattle.receiver.specs.Receive.{rulesOf, machineOf, untimed, judged, touched, refusal, answerOf, timeBy}
+use Rattle.channel.specs.Marks.{off, mark}
 use Rattle.receiver.specs.Events.{answerOfRun, Gives, touchEffect, Tallies, Rooms, Carried, Carries}
 use Rattle.receiver.proofs.Weight.{touch-small}
 use Rattle.receiver.proofs.Answering.{gives-refused, gives-none, gives-done}

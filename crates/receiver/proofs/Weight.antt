@@ -1,7 +1,7 @@
 -- How many bytes the records of a message's frames take at most.
 -- Assumes nothing.
 use Prim.Native.Nat.{ℕ, zero, suc, _+_, _*_, _/_, _≤_}
-use mathlib.Core.Path.{_≡_}
+use mathlib.Core.Path.{_≡_, _∙_}
 use mathlib.Core.List.{List, [], _∷_}
 use native.Mathlib.Omega.{arith}
 use lib.Dec.{lit≤}
@@ -25,7 +25,7 @@ use Rattle.touch.specs.Touch.{Touch, contact, body}
 use Rattle.touch.proofs.Least.{takes-contact}
 use Rattle.frame_records.proofs.Laws.{length-frame}
 use Rattle.contacts.specs.Touch.{touchView}
-use Rattle.runs.proofs.Stepping.{after-long}
+use Rattle.machine.proofs.Conforms.{after-long}
 use Rattle.receiver.specs.declared.Receiver.{Receiver}
 use Rattle.receiver.specs.Receive.{rulesOf, machineOf, untimed, judged, touched}
 
@@ -51,7 +51,7 @@ module _ (rules : Rules Contact) where
   verdict-weight m f cancelled h = omega (arith, cancels-length touchView (m .table) length-contact h, resting-count)
 
   pub verdict-long : (m : Machine) (cs : List Contact) (v : Verdict) → length (m .table .states) ≡ contacts → length (machineAfter touchView v (rules .next) m cs .table .states) ≡ contacts
-  verdict-long m cs injected h = after-long rules (m .table) cs h
+  verdict-long m cs injected h = after-long touchView (rules .next) (m .table) cs ∙ h
   verdict-long m cs ignored h = h
   verdict-long m cs cancelled h = resting-whole .states
 

@@ -25,7 +25,8 @@ use Rattle.machine.specs.Table.{Table, resting}
 use Rattle.machine.specs.Machine.{Machine}
 use Rattle.receiver.specs.declared.Receiver.{Receiver}
 use Rattle.receiver.specs.declared.Answer.{Answer}
-use Rattle.receiver.specs.Receive.{off, machineOf, withTable, judged, takes, effect, draftOf, receiverAfter, answerAfter, untimedBy}
+use Rattle.receiver.specs.Receive.{machineOf, withTable, judged, takes, effect, draftOf, receiverAfter, answerAfter}
+use Rattle.channel.specs.Marks.{off, untimedBy}
 use Rattle.contacts.specs.Touch.{touchView, touchRules}
 use Rattle.stream.specs.Stream.{Profile, Stream, unopened}
 use Rattle.stream.specs.Stream as stream

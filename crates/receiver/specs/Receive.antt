@@ -1,7 +1,7 @@
 -- The receiver of document 01: what becomes of it, what it answers and what it writes, of any message lent any room.
-use Prim.Native.Nat.{ℕ, _/_, _%_}
+use Prim.Native.Nat.{ℕ, _/_}
 use mathlib.Core.Path.{_≡_}
-use mathlib.Core.Bool.{Bool, true, false, cond, not}
+use mathlib.Core.Bool.{Bool, cond, not}
 use mathlib.Core.List.{List, [], _∷_}
 use lib.Dec.{eqb, leb}
 use lib.ListN.{length}
@@ -16,6 +16,7 @@ use Rattle.messages.specs.Bodies.{ready}
 use Rattle.messages.specs.declared.Ready.{Ready}
 use Rattle.house.specs.declared.Contact.{Contact}
 use Rattle.framing.specs.Frame.{Frame, timedFrames, begunBy}
+use Rattle.channel.specs.Marks.{off, mark, untimedBy, judgedBy}
 use Rattle.touch.specs.Touch.{Touch, body}
 use Rattle.machine.specs.Rules.{Rules}
 use Rattle.machine.specs.Table.{Table, resting}
@@ -25,14 +26,7 @@ use Rattle.receiver.specs.declared.Receiver.{Receiver}
 use Rattle.receiver.specs.declared.Answer.{Answer}
 use Rattle.contacts.specs.Touch.{touchView, touchRules}
 
--- ---- a receiver's parts: each mark is off where its number is 0
-
-abbrev pub off : ℕ → Bool
-off n = eqb n 0
-
-abbrev pub mark : Bool → ℕ
-mark true = 1
-mark false = 0
+-- ---- a receiver's parts
 
 abbrev pub rulesOf : Receiver → Rules Contact
 rulesOf r = touchRules (r .settings .most)
@@ -66,20 +60,14 @@ quiet r s = record { receiver = r; counts = machine.none; time = record { 0 = 0 
 abbrev pub settled : Receiver → Ready → Effect
 settled r s = quiet (record { ready = 1; begun = r .begun; ignoring = r .ignoring; settings = s; states = r .states; xs = r .xs; ys = r .ys }) []
 
--- "With ready flag 2 set, 11 is not applied, and the receiver answers encodeTime 0 and writes offset 0 (000, 2.2.3.2)."
-abbrev pub untimedBy : ℕ → Bool
-untimedBy flags = eqb (flags / 2 % 2) 1
-
+-- "With ready flag 2 set, .. the receiver answers encodeTime 0 and writes offset 0 (000, 2.2.3.2)."
 abbrev pub untimed : Receiver → Bool
 untimed r = untimedBy (r .settings .flags)
 
 abbrev pub timeBy : Bool → Milliseconds → Milliseconds
 timeBy unstamped t = cond unstamped (record { 0 = 0 }) t
 
--- "11 is judged on a message's first frame as long as no touch message with a frame has been accepted since ready."
-abbrev pub judgedBy : ℕ → ℕ → Bool
-judgedBy flags begun = cond (untimedBy flags) false (off begun)
-
+-- whether 11 is judged on a message's first frame
 abbrev pub judged : Receiver → Bool
 judged r = judgedBy (r .settings .flags) (r .begun)
 

@@ -13,7 +13,8 @@ ghost use mathlib.Core.Bool.{true};
 ghost use mathlib.Core.List.{List};
 ghost use Rattle.machine.specs.Table.{Table};
 ghost use Rattle.contacts.specs.Ruling.{tableFrom};
-ghost use Rattle.receiver.specs.Receive.{off, effect, refusal};
+ghost use Rattle.receiver.specs.Receive.{effect, refusal};
+ghost use Rattle.channel.specs.Marks.{off};
 ghost use Rattle.receiver.specs.Events.{ofParts, turned, Gives, readyEffect, dismissEffect};
 
 // The answer where no frame was run.

@@ -9,30 +9,12 @@ use runs::Run;
 use touch::CheckedBody;
 ghost use mathlib.Core.Path.{_≡_};
 ghost use mathlib.Core.Bool.{cond, not};
-ghost use Rattle.contacts.specs.Ruling.{tableFrom, Counted};
-ghost use Rattle.receiver.specs.Receive.{mark, untimedBy, judgedBy};
+ghost use Rattle.contacts.specs.Ruling.{tableFrom};
+ghost use Rattle.channel.specs.Marks.{mark};
 ghost use Rattle.receiver.specs.Events.{ofParts, turned, answerOfRun, Gives, touchEffect, Tallies, Rooms, Carries};
-ghost use Rattle.framing.specs.Frame.{begunBy};
 
 // How many contacts there are: an id is a byte.
 const CONTACTS: usize = 256;
-
-// Whether the client asked for no time stamps: ready flag 2.
-fn is_untimed(flags: u32) -> bool
-    ensures { λ r. ⌜ r ≡ untimedBy flags ⌝ }
-{
-    flags / 2 % 2 == 1
-}
-
-// Whether the first frame's offset is judged.
-fn is_judged(flags: u32, begun: u8) -> bool
-    ensures { λ r. ⌜ r ≡ judgedBy flags begun ⌝ }
-{
-    if is_untimed(flags) {
-        return false;
-    }
-    begun == 0
-}
 
 // encodeTime as it is answered: 0 where the client asked for no time stamps.
 fn time_for(time: Milliseconds, untimed: bool) -> Milliseconds
@@ -44,16 +26,6 @@ fn time_for(time: Milliseconds, untimed: bool) -> Milliseconds
     time
 }
 
-// The first-frame mark after a message of so many frames.
-fn begun_after(begun: u8, frames: u8) -> u8
-    ensures { λ r. ⌜ r ≡ begunBy 1 begun frames ⌝ }
-{
-    if frames == 0 {
-        return begun;
-    }
-    1
-}
-
 // The mark of a mode.
 fn ignoring_in(running: bool) -> u8
     ensures { λ r. ⌜ r ≡ mark (not running) ⌝ }
@@ -62,13 +34,6 @@ fn ignoring_in(running: bool) -> u8
         return 0;
     }
     1
-}
-
-// How many of the 256 contacts are active.
-fn active_in(states: [u8; 256]) -> u16
-    ensures { λ r. ⌜ Counted r states ⌝ }
-{
-    contacts::count_active(&states)
 }
 
 // The answer of a run.
@@ -98,9 +63,9 @@ fn tally(
     ensures { λ r. ⌜ Tallies (ofParts marks (tableFrom (now (states .entry)) (now (xs .entry)) (now (ys .entry)))) n (now (frames .entry)) r (now (output .entry)) (now (output .exit)) ⌝ }
 {
     let settings = marks.settings;
-    let untimed = is_untimed(settings.flags);
+    let untimed = channel::is_untimed(settings.flags);
     let mut some_states = *states;
-    let active = active_in(some_states);
+    let active = contacts::active_in(some_states);
     let mut some_xs = *xs;
     let mut some_ys = *ys;
     let run = runs::run_frames(
@@ -153,8 +118,8 @@ fn carry_out(
     ensures { λ r. ⌜ Carries (ofParts marks (tableFrom (now (states .entry)) (now (xs .entry)) (now (ys .entry)))) head (now (frames .entry)) (now (output .entry)) (turned r (tableFrom (now (states .exit)) (now (xs .exit)) (now (ys .exit)))) (now (output .exit)) ⌝ }
 {
     let settings = marks.settings;
-    let untimed = is_untimed(settings.flags);
-    let active = active_in(*states);
+    let untimed = channel::is_untimed(settings.flags);
+    let active = contacts::active_in(*states);
     let run = runs::run_frames(
         output,
         true,
@@ -173,7 +138,7 @@ fn carry_out(
     Turn {
         marks: Marks {
             ready: marks.ready,
-            begun: begun_after(marks.begun, head.frames),
+            begun: channel::begun_after(marks.begun, head.frames as usize),
             ignoring: ignoring_in(run.running),
             settings: settings,
         },
@@ -193,7 +158,7 @@ pub(crate) fn receive_touch(
     ensures { λ r. ⌜ Gives (ofParts marks (tableFrom (now (states .entry)) (now (xs .entry)) (now (ys .entry)))) (touchEffect (ofParts marks (tableFrom (now (states .entry)) (now (xs .entry)) (now (ys .entry)))) (now (body .entry))) (now (output .entry)) (turned r (tableFrom (now (states .exit)) (now (xs .exit)) (now (ys .exit)))) (now (output .exit)) ⌝ }
 {
     let settings = marks.settings;
-    let judged = is_judged(settings.flags, marks.begun);
+    let judged = channel::is_judged(settings.flags, marks.begun);
     let checked = touch::check_body(body, judged);
     let CheckedBody::Body(head, at) = checked else {
         return refuse(marks, checked.refusal());

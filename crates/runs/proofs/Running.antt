@@ -12,10 +12,12 @@ use Rattle.slices.specs.Writing.{laid}
 use Rattle.slices.proofs.Tails.{laidAt, laid-none, tail-is, tail-back, wrote}
 use Rattle.formats.specs.Format.{got, readSeries}
 use Rattle.formats.proofs.Steps.{tail, series-end}
+use Rattle.fields.specs.Integers.{taken}
 use Rattle.house.specs.declared.Head.{Head}
 use Rattle.house.specs.declared.Contact.{Contact}
 use Rattle.framing.proofs.Timed.{timed-contacts, timed-none, timed-cons}
 use Rattle.framing.specs.Frame.{Frame, headOf, timedFrame, timedFrames}
+use Rattle.touch.specs.Touch.{contact}
 use Rattle.touch.proofs.Passes.{frameBy}
 use Rattle.frame_records.specs.declared.FoundFrame.{FoundFrame}
 use Rattle.frame_records.specs.declared.FoundHead.{FoundHead}
@@ -144,8 +146,8 @@ module _ (rules : Rules Contact) (untimed wet : Bool) (l : List ℕ) (fs : List 
 
     past : (cs : List Contact) (t : List ℕ) → contactsOf (found .head .count) (drop (at + found .contacts) l) ≡ got cs t → drop (r .end) (drop (at + found .contacts) l) ≡ t
     past cs t e =
-        let p : Ends (found .head .count) (drop (at + found .contacts) l) (r .end) = rw (same-count, tail l (at + found .contacts)) at (s .passed) in
-        ends-read (found .head .count) (drop (at + found .contacts) l) (r .end) cs t p e
+        let p : Ends (contact taken) (found .head .count) (drop (at + found .contacts) l) (r .end) = rw (same-count, tail l (at + found .contacts)) at (s .passed) in
+        ends-read (contact taken) (found .head .count) (drop (at + found .contacts) l) (r .end) cs t p e
 
     next : Turn l at whole (found-by-head l at found (r .end) here past) end left (u .ahead)
     next = finding.turn l at whole (found-by-head l at found (r .end) here past) end left (u .ahead) h (u .read)

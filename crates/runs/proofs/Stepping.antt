@@ -1,30 +1,32 @@
 -- What becomes of one frame, by its ruling.
 -- Assumes nothing.
 use Prim.Native.Nat.{ℕ, _+_, _<_}
-use mathlib.Core.Path.{_≡_, refl, sym, ap}
+use mathlib.Core.Path.{_≡_, refl, sym, ap, _∙_}
 use mathlib.Core.Bool.{Bool, true, false}
-use mathlib.Core.List.{List, [], _∷_}
+use mathlib.Core.List.{List, []}
 use native.Mathlib.Omega.{arith}
 use native.Mathlib.Nat.{add-zero}
-use lib.ListN.{length, length-set}
+use lib.ListN.{length}
 use Rattle.slices.specs.Writing.{laid, bytes, Writes}
 use Rattle.slices.specs.declared.Written.{Written}
 use Rattle.slices.proofs.Laws.{writes-done}
 use Rattle.formats.specs.Format.{got}
+use Rattle.fields.specs.Integers.{taken}
 use Rattle.house.specs.declared.Head.{Head}
 use Rattle.house.specs.declared.Contact.{Contact}
 use Rattle.house.proofs.WellFormed.{never}
 use Rattle.house.proofs.Round.{length-contact}
 use Rattle.framing.specs.Frame.{Frame, headOf}
+use Rattle.touch.specs.Touch.{contact}
 use Rattle.frame_records.proofs.Laws.{frame-is, length-frame}
-use Rattle.machine.specs.Table.{Table, contacts, withContact}
+use Rattle.machine.specs.Table.{Table, contacts}
 use Rattle.machine.specs.Rules.{Rules}
-use Rattle.machine.specs.Conforms.{moved, tableAfter}
 use Rattle.machine.specs.Machine.{Machine, Counts, plus, countOf, Verdict, injected, ignored, cancelled, verdict}
 use Rattle.contacts.specs.Touch.{touchView, touchRules}
 use Rattle.contacts.specs.Ruling.{contactsOf, ofRead, rulingOf, unread, Counted}
 use Rattle.contacts.specs.declared.Ruling.{Ruling}
 use Rattle.contacts.specs.declared.Ruling.the-variants as Ruling
+use Rattle.machine.proofs.Conforms.{after-long}
 use Rattle.machine.proofs.Machine.{injected-machine, injected-bytes, ignored-machine, ignored-bytes, cancelled-machine, cancelled-bytes, cancels-length}
 use Rattle.contacts.proofs.Judgement.{ruled-injected, ruled-ignored, ruled-cancelled, counted-resting}
 use Rattle.moves.specs.Moves.{Ends}
@@ -52,13 +54,6 @@ lays-short wet s before e h = record { kept = λ n. refl; written = λ y room. a
 lays-none : (wet : Bool) (d : List ℕ) → Lays wet [] d d
 lays-none wet d = record { kept = λ n. refl; written = λ y room. refl }
 
--- ---- the table keeps its length
-
-pub after-long : (rules : Rules Contact) (t : Table) (cs : List Contact) → length (t .states) ≡ contacts → length (tableAfter touchView (rules .next) t cs .states) ≡ contacts
-unfolding tableAfter moved withContact
-after-long rules t [] h = h
-after-long rules t (c ∷ cs) h = after-long rules (moved touchView (rules .next) t c) cs (simp length-set h)
-
 -- ---- a count that goes up by one frame
 
 counted-as : (rules : Rules Contact) (m : Machine) (cs : List Contact) (a b : Counts) (v : Verdict) → verdict touchView rules m cs ≡ v → b ≡ plus a (countOf v) → b ≡ plus a (countOf (verdict touchView rules m cs))
@@ -78,12 +73,12 @@ module _ (head : Head) (l : List ℕ) (wet : Bool) (most : ℕ) (run : Run) (t :
         → Turned (touchRules most) f wet run (r .run) t u before after
     turned-injected k r u after q i =
         let v = ruled-injected (touchRules most) (machineIn run t) (f .contacts) k (read-as (Ruling.Injected k) q) in
-        let x = applies-after (head .count) l (r .end) t u (f .contacts) rest (i .carried .table) e in
+        let x = applies-after (contact taken) (head .count) l (r .end) t u (f .contacts) rest (i .carried .table) e in
         let n : head .count ≡ length (f .contacts) = ap (λ (g : Head). g .count) h in
         let b = injected-bytes touchView (touchRules most) (machineIn run t) f (v .verdict) in
         rw (i .answer) (record {
           machine = rw x (sym (injected-machine touchView (touchRules most) (machineIn run t) f (v .verdict)));
-          active = rw x (record { all = after-long (touchRules most) t (f .contacts) (a .all); same = v .active });
+          active = rw x (record { all = after-long touchView (touchRules most .next) t (f .contacts) ∙ a .all; same = v .active });
           counts = counted-as (touchRules most) (machineIn run t) (f .contacts) _ _ injected (v .verdict) (λ j. record { injected = run .injected + 1; ignored = sym (add-zero (run .ignored)) j; cancelled = sym (add-zero (run .cancelled)) j });
           records = rw (b, length-frame f) (omega arith);
           output = rw (b, frame-is f, ← h) (i .carried .output (f .contacts) rest e);
@@ -130,7 +125,7 @@ module _ (head : Head) (l : List ℕ) (wet : Bool) (most : ℕ) (run : Run) (t :
         turned = λ f rest h e a. turned-injected f rest h e a k r u after q i;
       }
 
-  pub steps-ignored : (r : Run) (end : ℕ) → ruled Ruling.Ignored → r ≡ ignoredRun run → Ends (head .count) l end
+  pub steps-ignored : (r : Run) (end : ℕ) → ruled Ruling.Ignored → r ≡ ignoredRun run → Ends (contact taken) (head .count) l end
       → Steps head l wet (touchRules most) run (record { run = r; end = end }) t t before before
   steps-ignored r end q i p =
       record {
@@ -141,7 +136,7 @@ module _ (head : Head) (l : List ℕ) (wet : Bool) (most : ℕ) (run : Run) (t :
         turned = λ f rest h e a. turned-ignored f rest h e a r q i;
       }
 
-  pub steps-cancelled : (r : Run) (end : ℕ) (u : Table) (after : List ℕ) → ruled Ruling.Cancelled → Cancels wet run r t u before after → Ends (head .count) l end
+  pub steps-cancelled : (r : Run) (end : ℕ) (u : Table) (after : List ℕ) → ruled Ruling.Cancelled → Cancels wet run r t u before after → Ends (contact taken) (head .count) l end
       → Steps head l wet (touchRules most) run (record { run = r; end = end }) t u before after
   steps-cancelled r end u after q i p =
       let x = i .answer in

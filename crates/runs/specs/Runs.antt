@@ -12,7 +12,7 @@ use Rattle.house.specs.Fields.{recordBytes}
 use Rattle.house.specs.declared.Head.{Head}
 use Rattle.house.specs.declared.Contact.{Contact}
 use Rattle.framing.specs.Frame.{Frame, headOf, timedFrames, contactsBytes}
-use Rattle.touch.specs.Touch.{frame, touchRecord}
+use Rattle.touch.specs.Touch.{contact, frame, touchRecord}
 use Rattle.machine.specs.Table.{Table, resting}
 use Rattle.machine.specs.Rules.{Rules}
 use Rattle.machine.specs.Machine.{Machine, Counts, plus, countOf, verdict, cancels, stepMachine, stepBytes, runMachine, runBytes, runCounts}
@@ -39,11 +39,11 @@ LaysFrame wet head l before after = (cs : List Contact) (t : List ℕ) → conta
 
 -- of n contacts, where there is room for their records: the table as they leave it, and their records
 pub record CarriesContacts (n : ℕ) (l : List ℕ) (end : ℕ) (t u : Table) (before after : List ℕ) : Type 0 where
-  pub table : Applies n l end t u
+  pub table : Applies (contact taken) n l end t u
   pub output : (cs : List Contact) (rest : List ℕ) → contactsOf n l ≡ got cs rest → after ≡ laid before (contactsBytes touchRecord cs)
 
 pub record CarriesFrame (wet : Bool) (head : Head) (l : List ℕ) (end : ℕ) (t u : Table) (before after : List ℕ) : Type 0 where
-  pub table : Applies (head .count) l end t u
+  pub table : Applies (contact taken) (head .count) l end t u
   pub output : LaysFrame wet head l before after
 
 -- ---- a run so far
@@ -100,7 +100,7 @@ pub record Steps (head : Head) (l : List ℕ) (wet : Bool) (rules : Rules Contac
   pub frames : framesPassed (r .run) ≤ framesPassed run + 1
   pub more : run .records ≤ r .run .records
   pub small : r .run .records ≤ run .records + 65536
-  pub passed : Ends (head .count) l (r .end)
+  pub passed : Ends (contact taken) (head .count) l (r .end)
   pub turned : (f : Frame Contact) (rest : List ℕ) → head ≡ headOf f → contactsOf (head .count) l ≡ got (f .contacts) rest → Counted (run .active) (t .states)
       → Turned rules f wet run (r .run) t u before after
 

@@ -56,5 +56,5 @@ pub(crate) fn carry(
             return carry_contacts(&mut out[RECORD_BYTES..], rest, count, states, xs, ys);
         }
     }
-    moves::apply(rest, count, states, xs, ys)
+    moves::apply(rest, count, false, states, xs, ys)
 }

@@ -10,6 +10,8 @@ ghost use mathlib.Core.Path.{_≡_};
 ghost use Rattle.machine.specs.Machine.{cancels};
 ghost use Rattle.contacts.specs.Touch.{touchView, touchRules};
 ghost use Rattle.contacts.specs.Ruling.{contactsOf, tableFrom, Decides};
+ghost use Rattle.fields.specs.Integers.{taken};
+ghost use Rattle.touch.specs.Touch.{contact};
 ghost use Rattle.moves.specs.Moves.{Ends};
 ghost use Rattle.runs.specs.Runs.{machineIn, ignoredRun, framesPassed, Lays, Injects, Cancels, Steps};
 
@@ -94,7 +96,7 @@ fn ignore(run: Run) -> Run
 
 // Where n contacts end that are not looked at, 0 where they cannot be read.
 fn skip(rest: &[u8], n: usize) -> usize
-    ensures { λ r. ⌜ Ends n (now (rest .entry)) r ⌝ }
+    ensures { λ r. ⌜ Ends (contact taken) n (now (rest .entry)) r ⌝ }
 {
     match touch::skip_contacts(rest, n) {
         End::At(end) => end,

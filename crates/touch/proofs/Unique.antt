@@ -10,6 +10,7 @@ use Rattle.formats.specs.Format.{Got, got, bad, Format, times}
 use Rattle.formats.specs.Answer.{Answers, skip}
 use Rattle.formats.proofs.Laws.{never}
 use Rattle.fields.specs.Integers.{Integers}
+use Rattle.house.specs.declared.Contact.{Contact}
 use Rattle.framing.specs.declared.BodyHead.{BodyHead}
 use Rattle.touch.specs.declared.ReadContact.{ReadContact}
 use Rattle.touch.specs.declared.ReadContact.the-variants as ReadContact
@@ -39,14 +40,18 @@ by-making : {A R : Type 0} (f : Format A) (l : List ℕ) (of : R → List ℕ �
     → (a b : R) → Answers f l (of a l) (size a) → Answers f l (of b l) (size b) → a ≡ b
 by-making f l of size v r back a b ha hb = sym (back a (ha .inside)) ∙ ap (make v r l) (ha .same ∙ sym (hb .same)) ∙ back b (hb .inside)
 
+-- two answers of a contact by one format are equal, whichever format it is
+pub contact-answer-unique : (f : Format Contact) (l : List ℕ) (a b : ReadContact) → Answers f l (contactGot a l) (contactLength a) → Answers f l (contactGot b l) (contactLength b) → a ≡ b
+contact-answer-unique f l = by-making f l contactGot contactLength ReadContact.Value ReadContact.Refused back
+  where
+    back : (x : ReadContact) → contactLength x ≤ length l → make ReadContact.Value ReadContact.Refused l (contactGot x l) ≡ x
+    back (ReadContact.Value c n) h = ap (ReadContact.Value c) (gone n l h)
+    back (ReadContact.Refused e) h = refl
+
 -- whatever integers are taken
 module _ (i : Integers) (l : List ℕ) where
   pub read-contact-unique : (a b : ReadContact) → Answers (contact i) l (contactGot a l) (contactLength a) → Answers (contact i) l (contactGot b l) (contactLength b) → a ≡ b
-  read-contact-unique = by-making (contact i) l contactGot contactLength ReadContact.Value ReadContact.Refused back
-    where
-      back : (x : ReadContact) → contactLength x ≤ length l → make ReadContact.Value ReadContact.Refused l (contactGot x l) ≡ x
-      back (ReadContact.Value c n) h = ap (ReadContact.Value c) (gone n l h)
-      back (ReadContact.Refused e) h = refl
+  read-contact-unique = contact-answer-unique (contact i) l
 
   pub read-frame-head-unique : (judged : Bool) (a b : ReadHead) → Answers (frameHead i judged) l (headGot a l) (headLength a) → Answers (frameHead i judged) l (headGot b l) (headLength b) → a ≡ b
   read-frame-head-unique judged = by-making (frameHead i judged) l headGot headLength ReadHead.Value ReadHead.Refused back

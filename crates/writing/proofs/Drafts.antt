@@ -6,61 +6,58 @@ use mathlib.Core.List.{List, [], _++_}
 use native.Mathlib.Omega.{arith}
 use lib.ListN.{length, take, drop}
 use lib.Seq.{take-at}
-use borrow.Author.Tests.{lt-ltb, le-ltb, lt-leb, le-leb}
-use Rattle.paper.specs.Refusals.{badRange, badCount, tooLong}
+use borrow.Author.Tests.{lt-leb, le-leb}
+use Rattle.paper.specs.Refusals.{badCount, tooLong}
 use Rattle.paper.specs.declared.Milliseconds.{Milliseconds}
 use Rattle.digits.specs.Digits.{Bytes}
 use Rattle.slices.specs.Writing.{bytes, refuse}
 use Rattle.slices.specs.declared.Written.{Written}
 use Rattle.formats.specs.Format.{Got, got, bad}
 use Rattle.formats.proofs.Laws.{never}
-use Rattle.integers.specs.Integer.{limit}
 use Rattle.messages.specs.Header.{header, headerBytes, mostBytes}
 use Rattle.messages.specs.Header as event
 use Rattle.touch.specs.Limits.{mostFrames}
 use Rattle.house.specs.declared.Contact.{Contact}
 use Rattle.framing.specs.Frame.{Frame}
-use Rattle.writing.specs.Records.{framesIn}
-use Rattle.writing.specs.TouchDraft.{messageOf, framesDraft, touchDraft}
+use Rattle.recordings.specs.Answer.{counted}
+use Rattle.writing.specs.TouchDraft.{messageOf, framesDraft, checkedFrames, draftOf, touchDraft}
 use Rattle.writing.specs.Filling.{WritesPart}
-use Rattle.writing.specs.Spelling.{Spelt, bodyOf, counted}
-use Rattle.writing.proofs.Judged.{frames-refused}
+use Rattle.writing.specs.Spelling.{Spelt, bodyOf}
+use Rattle.writing.proofs.Checked.{Checked, checked-got}
 use Rattle.writing.proofs.Filling.{Room, room, lays-done, lays-count, lays-refusal}
 use Rattle.writing.proofs.Spelt.{spelling-of}
 
--- 10
-pub draft-late : (time : Milliseconds) (l : List ℕ) → limit 2 0 ≤ time .0 → touchDraft time l ≡ refuse badRange
-unfolding touchDraft
-draft-late time l h = rw (le-ltb _ _ h)
-
-module _ (time : Milliseconds) (l : List ℕ) (early : time .0 < limit 2 0) where
-  -- 14
-  pub draft-bad : (e : ℕ) → bad e ≡ counted (framesIn l) → touchDraft time l ≡ refuse e
+module _ (time : Milliseconds) (l : List ℕ) where
+  -- 10 and 14
+  pub draft-bad : (e : ℕ) → bad e ≡ counted (checkedFrames time l) → touchDraft time l ≡ refuse e
   unfolding touchDraft
-  draft-bad e h = go (framesIn l) refl h
+  draft-bad e h = go (checkedFrames time l) h
     where
-      go : (x : Got (List (Frame Contact))) → framesIn l ≡ x → bad e ≡ counted x → touchDraft time l ≡ refuse e
-      go (bad y) w h = let z : y ≡ e = cc in rw (lt-ltb _ _ early, w) (ap refuse (sym (frames-refused l y w) ∙ z))
-      go (got fs t) w h = never e (length fs) [] h
+      go : (x : Got (List (Frame Contact))) → bad e ≡ counted x → draftOf time x ≡ refuse e
+      go (bad y) h = let z : y ≡ e = cc in ap refuse z
+      go (got fs t) h = never e (length fs) [] h
 
-  -- frames, as many as were counted
+  -- frames that passed both, as many as were counted
   pub record Frames (n : ℕ) : Type 0 where
     pub frames : List (Frame Contact)
     pub after : List ℕ
-    pub read : framesIn l ≡ got frames after
+    pub checked : checkedFrames time l ≡ got frames after
     pub count : length frames ≡ n
 
-  pub frames-of : (n : ℕ) → got n [] ≡ counted (framesIn l) → Frames n
-  frames-of n h = go (framesIn l) refl h
+  pub frames-of : (n : ℕ) → got n [] ≡ counted (checkedFrames time l) → Frames n
+  frames-of n h = go (checkedFrames time l) refl h
     where
-      go : (x : Got (List (Frame Contact))) → framesIn l ≡ x → got n [] ≡ counted x → Frames n
+      go : (x : Got (List (Frame Contact))) → checkedFrames time l ≡ x → got n [] ≡ counted x → Frames n
       go (bad y) w h = never y n [] (sym h)
-      go (got fs t) w h = record { frames = fs; after = t; read = w; count = cc }
+      go (got fs t) w h = record { frames = fs; after = t; checked = w; count = cc }
+
+  pub passed : (n : ℕ) (f : Frames n) → Checked time l (f .frames) (f .after)
+  passed n f = checked-got time l (f .frames) (f .after) (f .checked)
 
   -- 7
   pub draft-many : (n : ℕ) → Frames n → mostFrames < n → touchDraft time l ≡ refuse badCount
   unfolding touchDraft framesDraft
-  draft-many n f h = let k : mostFrames < length (f .frames) = rw (f .count) h in rw (lt-ltb _ _ early, f .read, lt-leb _ _ k)
+  draft-many n f h = let k : mostFrames < length (f .frames) = rw (f .count) h in rw (f .checked, lt-leb _ _ k)
 
   module _ (n : ℕ) (f : Frames n) (few : n ≤ mostFrames) where
     fewer : length (f .frames) ≤ mostFrames
@@ -68,15 +65,15 @@ module _ (time : Milliseconds) (l : List ℕ) (early : time .0 < limit 2 0) wher
 
     draft-long : mostBytes < length (messageOf time (f .frames)) → touchDraft time l ≡ refuse tooLong
     unfolding touchDraft framesDraft
-    draft-long h = rw (lt-ltb _ _ early, f .read, le-leb _ _ fewer, lt-leb _ _ h)
+    draft-long h = rw (f .checked, le-leb _ _ fewer, lt-leb _ _ h)
 
     draft-done : length (messageOf time (f .frames)) ≤ mostBytes → touchDraft time l ≡ bytes (messageOf time (f .frames))
     unfolding touchDraft framesDraft
-    draft-done h = rw (lt-ltb _ _ early, f .read, le-leb _ _ fewer, le-leb _ _ h)
+    draft-done h = rw (f .checked, le-leb _ _ fewer, le-leb _ _ h)
 
     module _ (hl : Bytes l) where
       pub all-spelt : Spelt (length l / 21) l
-      all-spelt = spelling-of time l (f .frames) (f .after) hl (f .read) .each
+      all-spelt = spelling-of time l (f .frames) (f .after) hl (passed n f .read) .each
 
       -- the message as the code spells it
       abbrev spelled : List ℕ
@@ -84,7 +81,7 @@ module _ (time : Milliseconds) (l : List ℕ) (early : time .0 < limit 2 0) wher
 
       spelled-is : messageOf time (f .frames) ≡ spelled
       spelled-is =
-          spelling-of time l (f .frames) (f .after) hl (f .read) .same
+          spelling-of time l (f .frames) (f .after) hl (passed n f .read) .same
           ∙ ap (λ (k : ℕ). header event.touch (headerBytes + length (bodyOf time k (length l / 21) l)) ++ bodyOf time k (length l / 21) l) (f .count)
 
       module _ (w : Written) (d after : List ℕ) (size : length d ≡ mostBytes) (h : WritesPart spelled w d after) where

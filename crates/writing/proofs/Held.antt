@@ -23,7 +23,7 @@ use Rattle.framing.specs.Format.{frameFormat, frameHeadFormat}
 use Rattle.touch.specs.Limits.{mostContacts}
 use Rattle.touch.specs.Touch.{point, sides, orientation, pressure, optional, contact, frameHead, frame}
 use Rattle.touch.proofs.Ranges.{contact-fits, contact-well, frame-holds}
-use Rattle.writing.specs.Records.{contactRecord, frameRecords}
+use Rattle.recordings.specs.Records.{contactRecord, frameRecords}
 
 -- one by one
 each-held : {A : Type 0} (P Q : Bool → A → Type 0) → ((a : A) → P false a → Q false a) → (n : ℕ) (s : List A) → Each P false n s → Each Q false n s

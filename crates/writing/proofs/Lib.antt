@@ -1,8 +1,7 @@
-pub mod Records
+pub mod Checked
 pub mod Held
 pub mod RoundTrip
 pub mod Unique
 mod Filling
 mod Spelt
-mod Judged
 mod Drafts

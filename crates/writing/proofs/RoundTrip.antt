@@ -3,16 +3,17 @@
 -- Assumes nothing.
 use Prim.Native.Nat.{ℕ, _+_, _≤_, _<_}
 use mathlib.Core.Path.{_≡_, refl, sym, ap, _∙_}
-use mathlib.Core.Bool.{Bool, true, false, cond}
+use mathlib.Core.Bool.{false}
 use mathlib.Core.List.{List, []}
 use native.Mathlib.Omega.{arith}
-use lib.Dec.{leb, ltb, lit<}
+use lib.Dec.{leb, lit<}
 use lib.ListN.{length}
-use borrow.Author.Tests.{lt-ltb, le-leb, leb-true, ltb-true}
-use Rattle.paper.specs.Refusals.{badRange, badRecord, badCount, tooLong}
+use borrow.Author.Tests.{le-leb, leb-true}
+use Rattle.paper.specs.Refusals.{badCount, tooLong}
 use Rattle.paper.specs.declared.Milliseconds.{Milliseconds}
 use Rattle.digits.specs.Digits.{Bytes}
-use Rattle.slices.specs.Writing.{Draft, bytes, refuse}
+use Rattle.slices.specs.Writing.{bytes}
+use Rattle.slices.proofs.Drafts.{refused, passed}
 use Rattle.formats.specs.Format.{Got, got, bad}
 use Rattle.integers.specs.Integer.{limit}
 use Rattle.fields.specs.Integers.{taken, strict}
@@ -26,10 +27,11 @@ use Rattle.fields.proofs.Laws.{taken-law, taken-range}
 use Rattle.framing.specs.Format.{bodyFormat, bodyHeadFormat}
 use Rattle.touch.specs.Touch.{Touch, touch, touchRecord}
 use Rattle.touch.proofs.Laws.{strict-touch-law, touch-law}
-use Rattle.writing.specs.Records.{framesIn}
+use Rattle.recordings.specs.Records.{framesIn}
 use Rattle.reading.specs.Plain.{plainly}
-use Rattle.writing.specs.TouchDraft.{messageOf, framesDraft, recordsDraft, touchDraft}
-use Rattle.writing.proofs.Records.{FramesFit, frames-back, frames-read}
+use Rattle.writing.specs.TouchDraft.{messageOf, framesDraft, checkedFrames, draftOf, touchDraft}
+use Rattle.recordings.proofs.Records.{FramesFit, frames-back, frames-read}
+use Rattle.writing.proofs.Checked.{checked-early, checked-got}
 use Rattle.writing.proofs.Held.{frames-pack, frames-write}
 
 -- ---- what a body that can be written is
@@ -59,7 +61,7 @@ message-long time fs = header-long event.touch _ _
 draft-is : (m : Touch) (records : List ℕ) → BodyFits m → framesIn records ≡ got (m .frames) [] → length (messageOf (m .time) (m .frames)) ≤ mostBytes
     → touchDraft (m .time) records ≡ bytes (messageOf (m .time) (m .frames))
 unfolding touchDraft framesDraft
-draft-is m records b e k = rw (lt-ltb _ _ (b .time), e, le-leb _ _ (b .count), le-leb _ _ k)
+draft-is m records b e k = rw (checked-early (m .time) records (b .time), e, le-leb _ _ (b .count), le-leb _ _ k)
 
 -- A TOUCH MESSAGE THAT THE PLAIN READING ACCEPTS IS WRITTEN BACK TO THE SAME BYTES FROM ITS RECORDS AND ITS ENCODE TIME
 pub accepted-is-written-back-to-the-same-bytes : (l : List ℕ) (m : Touch) (t : List ℕ) → Bytes l → plainly l ≡ got m t → touchDraft (m .time) (framesBytes touchRecord (m .frames)) ≡ bytes l
@@ -72,13 +74,6 @@ accepted-is-written-back-to-the-same-bytes l m t hl e =
 
 -- ---- a draft that is bytes passed every check
 
-refused : {A : Type 0} (e : ℕ) (s : List ℕ) → refuse e ≡ bytes s → A
-refused e s h = absurd (let z : _≡_ {A = ℕ} 0 1 = cc in omega arith)
-
-passed : (b : Bool) (d : Draft) (e : ℕ) (s : List ℕ) → cond b d (refuse e) ≡ bytes s → (b ≡ true) × (d ≡ bytes s)
-passed true d e s h = (refl, h)
-passed false d e s h = refused e s h
-
 pub record Written (time : Milliseconds) (records s : List ℕ) : Type 0 where
   pub frames : List (Frame Contact)
   pub after : List ℕ
@@ -90,17 +85,25 @@ pub record Written (time : Milliseconds) (records s : List ℕ) : Type 0 where
 
 pub written : (time : Milliseconds) (records s : List ℕ) → touchDraft time records ≡ bytes s → Written time records s
 unfolding touchDraft framesDraft
-written time records s h =
-    let p = passed (ltb (time .0) (limit 2 0)) _ badRange s h in
-    go (framesIn records) refl (ltb-true _ _ (p .0)) (p .1)
+written time records s h = go (checkedFrames time records) refl h
   where
-    go : (x : Got (List (Frame Contact))) → framesIn records ≡ x → time .0 < limit 2 0 → recordsDraft time x ≡ bytes s → Written time records s
-    go (bad e) w k h = refused badRecord s h
-    go (got fs t) w k h =
+    go : (x : Got (List (Frame Contact))) → checkedFrames time records ≡ x → draftOf time x ≡ bytes s → Written time records s
+    go (bad e) w h = refused e s h
+    go (got fs t) w h =
+        let c = checked-got time records fs t w in
         let p = passed (leb (length fs) mostFrames) _ badCount s h in
         let q = passed (leb (length (messageOf time fs)) mostBytes) _ tooLong s (p .1) in
         let z : messageOf time fs ≡ s = let v = q .1 in cc in
-        record { frames = fs; after = t; read = w; early = k; few = leb-true _ _ (p .0); short = leb-true _ _ (q .0); same = sym z }
+        record { frames = fs; after = t; read = c .read; early = c .early; few = leb-true _ _ (p .0); short = leb-true _ _ (q .0); same = sym z }
+
+-- and its bytes are read back to the same frames
+pub written-reads : (time : Milliseconds) (records s : List ℕ) → Bytes records → (w : Written time records s) → plainly s ≡ got (record { time = time; frames = w .frames }) []
+written-reads time records s b w =
+    let r = frames-read records (w .frames) (w .after) b (w .read) in
+    let m : Touch = record { time = time; frames = w .frames } in
+    let holds = body-holds m (record { time = w .early; count = w .few; frames = r .fit }) in
+    let k : headerBytes + length (touch taken false .write m) ≤ mostBytes = omega (arith, w .short, message-long time (w .frames)) in
+    ap plainly (w .same) ∙ message-back (touch taken false) (touch-law taken taken-law false) event.touch m holds k (lit< tt)
 
 -- WHAT THE TOUCH WRITER WRITES IS READ BACK TO THE SAME RECORDS AND ENCODE TIME
 pub record ReadBack (time : Milliseconds) (records s : List ℕ) : Type 0 where
@@ -112,13 +115,9 @@ pub record ReadBack (time : Milliseconds) (records s : List ℕ) : Type 0 where
 pub written-is-read-back-to-the-same-records-and-time : (time : Milliseconds) (records s : List ℕ) → Bytes records → touchDraft time records ≡ bytes s → ReadBack time records s
 written-is-read-back-to-the-same-records-and-time time records s b h =
     let w = written time records s h in
-    let r = frames-read records (w .frames) (w .after) b (w .read) in
-    let m : Touch = record { time = time; frames = w .frames } in
-    let holds = body-holds m (record { time = w .early; count = w .few; frames = r .fit }) in
-    let k : headerBytes + length (touch taken false .write m) ≤ mostBytes = omega (arith, w .short, message-long time (w .frames)) in
     record {
-      message = m;
-      reads = ap plainly (w .same) ∙ message-back (touch taken false) (touch-law taken taken-law false) event.touch m holds k (lit< tt);
+      message = record { time = time; frames = w .frames };
+      reads = written-reads time records s b w;
       same-time = refl;
-      same-records = sym (r .same);
+      same-records = sym (frames-read records (w .frames) (w .after) b (w .read) .same);
     }

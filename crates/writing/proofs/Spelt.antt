@@ -24,10 +24,10 @@ use Rattle.messages.specs.Header as event
 use Rattle.framing.specs.Frame.{Frame, headOf, contactsBytes, frameBytes, framesBytes}
 use Rattle.framing.specs.Format.{bodyFormat, frameFormat}
 use Rattle.touch.specs.Touch.{contact, frame, touch, touchRecord}
-use Rattle.writing.specs.Records.{contactRecord, frameRecords, framesIn}
+use Rattle.recordings.specs.Records.{contactRecord, frameRecords, framesIn}
 use Rattle.writing.specs.TouchDraft.{messageOf}
 use Rattle.writing.specs.Spelling.{spelling, Spells, spelt, Spelt, bodyOf}
-use Rattle.writing.proofs.Records.{frames-read}
+use Rattle.recordings.proofs.Records.{frames-read}
 use Rattle.writing.proofs.Held.{contact-writes, head-writes}
 
 -- ---- one record more

@@ -1,5 +1,4 @@
 -- The touch writer.
-pub mod Records
 pub mod TouchDraft
 pub mod Filling
 pub mod Spelling

@@ -5,7 +5,7 @@ use mathlib.Core.Bool.{false, cond}
 use mathlib.Core.List.{List}
 use lib.Dec.{ltb, leb}
 use lib.ListN.{length}
-use Rattle.paper.specs.Refusals.{badRange, badRecord, badCount, tooLong}
+use Rattle.paper.specs.Refusals.{badRange, badCount, tooLong}
 use Rattle.paper.specs.declared.Milliseconds.{Milliseconds}
 use Rattle.slices.specs.Writing.{Draft, bytes, refuse}
 use Rattle.formats.specs.Format.{Got, got, bad}
@@ -17,7 +17,7 @@ use Rattle.touch.specs.Limits.{mostFrames}
 use Rattle.house.specs.declared.Contact.{Contact}
 use Rattle.framing.specs.Frame.{Frame}
 use Rattle.touch.specs.Touch.{touch}
-use Rattle.writing.specs.Records.{framesIn}
+use Rattle.recordings.specs.Records.{framesIn}
 
 -- the message of a time and frames
 abbrev pub messageOf : Milliseconds → List (Frame Contact) → List ℕ
@@ -30,11 +30,14 @@ framesDraft time fs =
     (cond (leb (length (messageOf time fs)) mostBytes) (bytes (messageOf time fs)) (refuse tooLong))
     (refuse badCount)
 
--- 14, over all records
-abbrev pub recordsDraft : Milliseconds → Got (List (Frame Contact)) → Draft
-recordsDraft time (got fs t) = framesDraft time fs
-recordsDraft time (bad e) = refuse badRecord
+-- 10, for a time that U4 does not hold; then 14, over all records
+unfoldable pub checkedFrames : Milliseconds → List ℕ → Got (List (Frame Contact))
+checkedFrames time records = cond (ltb (time .0) (limit 2 0)) (framesIn records) (bad badRange)
 
--- 10, for a time that U4 does not hold; 13 is every writer's last check
+abbrev pub draftOf : Milliseconds → Got (List (Frame Contact)) → Draft
+draftOf time (got fs t) = framesDraft time fs
+draftOf time (bad e) = refuse e
+
+-- 13 is every writer's last check
 unfoldable pub touchDraft : Milliseconds → List ℕ → Draft
-touchDraft time records = cond (ltb (time .0) (limit 2 0)) (recordsDraft time (framesIn records)) (refuse badRange)
+touchDraft time records = draftOf time (checkedFrames time records)

@@ -10,13 +10,13 @@ ghost use Rattle.touch.specs.Touch.{touchHead};
 ghost use Rattle.slices.specs.Writing.{Writes};
 ghost use Rattle.writing.specs.Filling.{WritesPart};
 ghost use Rattle.writing.specs.Spelling.{Spelt, bodyOf};
-ghost use Rattle.writing.specs.TouchDraft.{touchDraft};
-use crate::Counted;
-use crate::judge::count_frames;
+ghost use Rattle.recordings.specs.Answer.{counted, countedGot};
+ghost use Rattle.writing.specs.TouchDraft.{checkedFrames, touchDraft};
 use crate::parts::join;
 use crate::parts::refused;
 use crate::spell::write_records;
 use paper::Milliseconds;
+use recordings::Counted;
 use slices::Written;
 
 // The greatest encodeTime of a message.
@@ -79,14 +79,21 @@ fn write_message(
     }
 }
 
+// Whether a message holds an encodeTime, and how many frames records are: 10, then 14.
+pub fn check_records(time: Milliseconds, records: &[u8]) -> Counted
+    ensures { λ r. ⌜ countedGot r ≡ counted (checkedFrames time (now (records .entry))) ⌝ }
+{
+    if TIME_MOST < time.0 {
+        return Counted::Refused(paper::BAD_RANGE);
+    }
+    recordings::count_frames(records)
+}
+
 // Writes a touch message of an encodeTime and of records.
 pub fn write_touch(out: &mut [u8], time: Milliseconds, records: &[u8]) -> Written
     ensures { λ r. ⌜ Writes (touchDraft time (now (records .entry))) r (now (out .entry)) (now (out .exit)) ⌝ }
 {
-    if TIME_MOST < time.0 {
-        return refused(paper::BAD_RANGE);
-    }
-    let got = count_frames(records);
+    let got = check_records(time, records);
     let Counted::Frames(frames) = got else {
         return refused(got.refusal());
     };

@@ -62,7 +62,7 @@ returns c =
     let p = r .before .before .before in
     let a = p .before .before .args in
     let b = stop (contact taken) (a .rest .now) (p .loop .at) _ _ (rw (c .enum-told .given .1) at (r .read-contact .ensures)) in
-    sym (read-bad false (every (isDown touchView)) (p .loop .left) _ _ (r .before .before .loop-test .taken) b) ∙ p .loop .inv .1
+    sym (read-bad (contact taken) false (every (isDown touchView)) (p .loop .left) _ _ (r .before .before .loop-test .taken) b) ∙ p .loop .inv .1
 
 add-at : tie.Need-add-at Inv-loop μ-loop
 add-at c = omega (arith, this (c .before .before) .ends)
@@ -80,7 +80,7 @@ loop-again c =
     let p = r .before .before .before in
     let a = p .before .before .args in
     let on = every-on (isDown touchView) (k .before .got .given .0 .0) (eq-eqb _ _ (c .if1 .taken)) in
-    (this k .ends, sym (read-on false (every (isDown touchView)) (every (isDown touchView)) (p .loop .left) (p .loop .at) _ (a .rest .now) _ (r .before .before .loop-test .taken) (this k) on) ∙ p .loop .inv .1)
+    (this k .ends, sym (read-on (contact taken) false (every (isDown touchView)) (every (isDown touchView)) (p .loop .left) (p .loop .at) _ (a .rest .now) _ (r .before .before .loop-test .taken) (this k) on) ∙ p .loop .inv .1)
 
 returns-2 : tie.Need-returns-2 Inv-loop μ-loop
 returns-2 c =
@@ -89,14 +89,14 @@ returns-2 c =
     let p = r .before .before .before in
     let a = p .before .before .args in
     let off = every-off (isDown touchView) (k .before .got .given .0 .0) (ne-eqb _ _ (c .if1 .left)) in
-    sym (read-off false (every (isDown touchView)) (p .loop .left) (p .loop .at) _ (a .rest .now) _ (r .before .before .loop-test .taken) (this k) off) ∙ p .loop .inv .1
+    sym (read-off (contact taken) false (every (isDown touchView)) (p .loop .left) (p .loop .at) _ (a .rest .now) _ (r .before .before .loop-test .taken) (this k) off) ∙ p .loop .inv .1
 
 returns-3 : tie.Need-returns-3 Inv-loop μ-loop
 unfolding every
 returns-3 c =
     let p = c .before in
     let a = p .before .before .args in
-    sym (read-end false (every (isDown touchView)) (p .loop .left) _ (c .loop-test .left)) ∙ p .loop .inv .1
+    sym (read-end (contact taken) false (every (isDown touchView)) (p .loop .left) _ (c .loop-test .left)) ∙ p .loop .inv .1
 
 pub all-down-spec : {M : Type 1} → statement M
 all-down-spec =

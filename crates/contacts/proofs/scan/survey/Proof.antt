@@ -8,11 +8,9 @@ use mathlib.Core.List.{List, _∷_}
 use native.Mathlib.Omega.{arith}
 use lib.ListN.{length, drop, length-set}
 use Rattle.formats.proofs.Steps.{step, stop, Stepped}
-use Rattle.fields.specs.Integers.{taken}
 use Rattle.house.specs.declared.Contact.{Contact}
-use Rattle.touch.specs.Touch.{contact}
 use Rattle.machine.specs.Table.{active, one}
-use Rattle.contacts.specs.Ruling.{contactsOf, ofRead, unlawful, surveyed}
+use Rattle.contacts.specs.Ruling.{source, contactsBy, ofRead, unlawful, surveyed}
 use Rattle.contacts.specs.declared.Survey.{Survey}
 use Rattle.contacts.proofs.Reading.{read-same, read-end, read-bad, read-on, read-off}
 use Rattle.contacts.proofs.Scanning.{surveyedFrom, survey-start, survey-end, survey-on, survey-twice, survey-off}
@@ -20,12 +18,12 @@ use Rattle.contacts.proofs.scan.survey.Statement.{statement}
 use Rattle.contacts.proofs.scan.survey.Tie as tie
 
 abbrev Inv-loop : tie.InvT-loop
-Inv-loop rest n states xs ys seen₀ came₀ gone₀ at₀ left₀ seen came gone at left =
+Inv-loop rest n recorded states xs ys seen₀ came₀ gone₀ at₀ left₀ seen came gone at left =
     (at ≤ length rest) × (length seen ≡ 256) × (came + left ≤ n) × (gone + left ≤ n)
-    × (ofRead unlawful (surveyedFrom states xs ys seen came gone) (contactsOf left (drop at rest)) ≡ ofRead unlawful (surveyed states xs ys) (contactsOf n rest))
+    × (ofRead unlawful (surveyedFrom states xs ys seen came gone) (contactsBy (source recorded) left (drop at rest)) ≡ ofRead unlawful (surveyed states xs ys) (contactsBy (source recorded) n rest))
 
 abbrev μ-loop : tie.MeasureT-loop
-μ-loop rest n states xs ys seen₀ came₀ gone₀ at₀ left₀ seen came gone at left = left
+μ-loop rest n recorded states xs ys seen₀ came₀ gone₀ at₀ left₀ seen came gone at left = left
 
 -- what is found of the contacts that are left
 abbrev left-of : tie.At-loop Inv-loop μ-loop → List Contact → Survey
@@ -36,11 +34,11 @@ left-of p =
 -- the contact of this turn
 this : (c : tie.After-known-told Inv-loop μ-loop) →
     let p = c .before .before .before .before .before .before in
-    Stepped (contact taken) (p .before .before .args .rest .now) (p .loop .at) (c .before .got .given .0 .0) (p .loop .at + c .before .got .given .0 .1 .0)
+    Stepped (source (p .before .before .args .recorded)) (p .before .before .args .rest .now) (p .loop .at) (c .before .got .given .0 .0) (p .loop .at + c .before .got .given .0 .1 .0)
 this c =
     let r = c .before .before .before in
     let p = r .before .before .before in
-    step (contact taken) (p .before .before .args .rest .now) (p .loop .at) _ _ (p .loop .inv .0) (rw (c .before .got .given .1) at (r .read-contact .ensures))
+    step (source (p .before .before .args .recorded)) (p .before .before .args .rest .now) (p .loop .at) _ _ (p .loop .inv .0) (rw (c .before .got .given .1) at (r .read-contact .ensures))
 
 -- an id is a byte
 id-in : (c : tie.After-struct-known Inv-loop μ-loop) → c .before .before .got .given .0 .0 .id < 256
@@ -50,16 +48,16 @@ id-in c = omega arith
 ends : (k : tie.After-known-told Inv-loop μ-loop) →
     let p = k .before .before .before .before .before .before in
     let a = p .before .before .args in
-    ((cs : List Contact) → left-of p (k .before .got .given .0 .0 ∷ cs) ≡ unlawful) → unlawful ≡ ofRead unlawful (surveyed (a .states .now) (a .xs .now) (a .ys .now)) (contactsOf (a .n) (a .rest .now))
+    ((cs : List Contact) → left-of p (k .before .got .given .0 .0 ∷ cs) ≡ unlawful) → unlawful ≡ ofRead unlawful (surveyed (a .states .now) (a .xs .now) (a .ys .now)) (contactsBy (source (a .recorded)) (a .n) (a .rest .now))
 ends k off =
     let r = k .before .before .before in
     let p = r .before .before .before in
-    sym (read-off unlawful (left-of p) (p .loop .left) (p .loop .at) _ (p .before .before .args .rest .now) _ (r .before .before .loop-test .taken) (this k) off) ∙ p .loop .inv .4
+    sym (read-off (source (p .before .before .args .recorded)) unlawful (left-of p) (p .loop .left) (p .loop .at) _ (p .before .before .args .rest .now) _ (r .before .before .loop-test .taken) (this k) off) ∙ p .loop .inv .4
 
 loop-holds : tie.Need-loop-holds Inv-loop μ-loop
 loop-holds c =
     let a = c .before .args in
-    (omega arith, refl, omega arith, omega arith, read-same unlawful _ _ (survey-start (a .states .now) (a .xs .now) (a .ys .now)) (contactsOf (a .n) (a .rest .now)))
+    (omega arith, refl, omega arith, omega arith, read-same unlawful _ _ (survey-start (a .states .now) (a .xs .now) (a .ys .now)) (contactsBy (source (a .recorded)) (a .n) (a .rest .now)))
 
 sub-read-contact : tie.Need-sub-read-contact Inv-loop μ-loop
 sub-read-contact c = search needs
@@ -87,8 +85,8 @@ returns c =
     let r = c .before .before .before in
     let p = r .before .before .before in
     let a = p .before .before .args in
-    let b = stop (contact taken) (a .rest .now) (p .loop .at) _ _ (rw (c .before .enum-told .given .1) at (r .read-contact .ensures)) in
-    c .broken .ensures ∙ sym (read-bad unlawful (left-of p) (p .loop .left) _ _ (r .before .before .loop-test .taken) b) ∙ p .loop .inv .4
+    let b = stop (source (a .recorded)) (a .rest .now) (p .loop .at) _ _ (rw (c .before .enum-told .given .1) at (r .read-contact .ensures)) in
+    c .broken .ensures ∙ sym (read-bad (source (a .recorded)) unlawful (left-of p) (p .loop .left) _ _ (r .before .before .loop-test .taken) b) ∙ p .loop .inv .4
 
 cast-i : tie.Need-cast-i Inv-loop μ-loop
 cast-i c = search needs
@@ -155,7 +153,7 @@ loop-again c =
       simp length-set (p .loop .inv .1),
       omega arith,
       omega arith,
-      sym (read-on unlawful (left-of p) _ (p .loop .left) (p .loop .at) _ (a .rest .now) d (r .before .before .loop-test .taken) (this k) on) ∙ p .loop .inv .4,
+      sym (read-on (source (a .recorded)) unlawful (left-of p) _ (p .loop .left) (p .loop .at) _ (a .rest .now) d (r .before .before .loop-test .taken) (this k) on) ∙ p .loop .inv .4,
     )
 
 broken-requires-3 : tie.Need-broken-requires-3 Inv-loop μ-loop
@@ -172,7 +170,7 @@ returns-4 : tie.Need-returns-4 Inv-loop μ-loop
 returns-4 c =
     let p = c .before in
     let a = p .before .before .args in
-    survey-end (a .states .now) (a .xs .now) (a .ys .now) (p .loop .seen) (p .loop .came) (p .loop .gone) ∙ sym (read-end unlawful (left-of p) (p .loop .left) _ (c .loop-test .left)) ∙ p .loop .inv .4
+    survey-end (a .states .now) (a .xs .now) (a .ys .now) (p .loop .seen) (p .loop .came) (p .loop .gone) ∙ sym (read-end (source (a .recorded)) unlawful (left-of p) (p .loop .left) _ (c .loop-test .left)) ∙ p .loop .inv .4
 
 pub survey-spec : {M : Type 1} → statement M
 survey-spec =

@@ -8,31 +8,29 @@ use native.Mathlib.Omega.{arith}
 use lib.ListN.{length, drop}
 use Rattle.formats.specs.Answer.{skipped}
 use Rattle.formats.proofs.Steps.{step, stop, Stepped, series-end, series-got, series-bad}
-use Rattle.fields.specs.Integers.{taken}
-use Rattle.touch.specs.Touch.{contact}
-use Rattle.contacts.specs.Ruling.{contactsOf, tableFrom}
+use Rattle.contacts.specs.Ruling.{source, contactsBy, tableFrom}
 use Rattle.moves.specs.Moves.{afterRead}
 use Rattle.moves.proofs.Moving.{read-end, read-bad, read-on, ends-got, ends-bad}
 use Rattle.moves.proofs.table.apply.Statement.{statement}
 use Rattle.moves.proofs.table.apply.Tie as tie
 
 abbrev Inv-loop : tie.InvT-loop
-Inv-loop rest n states₀ xs₀ ys₀ at₀ left₀ states xs ys at left =
+Inv-loop rest n recorded states₀ xs₀ ys₀ at₀ left₀ states xs ys at left =
     (at ≤ length rest)
-    × (skipped (contactsOf left (drop at rest)) ≡ skipped (contactsOf n rest))
-    × (afterRead left (tableFrom states xs ys) (drop at rest) ≡ afterRead n (tableFrom states₀ xs₀ ys₀) rest)
+    × (skipped (contactsBy (source recorded) left (drop at rest)) ≡ skipped (contactsBy (source recorded) n rest))
+    × (afterRead (source recorded) left (tableFrom states xs ys) (drop at rest) ≡ afterRead (source recorded) n (tableFrom states₀ xs₀ ys₀) rest)
 
 abbrev μ-loop : tie.MeasureT-loop
-μ-loop rest n states₀ xs₀ ys₀ at₀ left₀ states xs ys at left = left
+μ-loop rest n recorded states₀ xs₀ ys₀ at₀ left₀ states xs ys at left = left
 
 -- the contact of this turn
 this : (c : tie.After-known-told Inv-loop μ-loop) →
     let p = c .before .before .before .before .before .before in
-    Stepped (contact taken) (p .before .before .args .rest .now) (p .loop .at) (c .before .got .given .0 .0) (p .loop .at + c .before .got .given .0 .1 .0)
+    Stepped (source (p .before .before .args .recorded)) (p .before .before .args .rest .now) (p .loop .at) (c .before .got .given .0 .0) (p .loop .at + c .before .got .given .0 .1 .0)
 this c =
     let r = c .before .before .before in
     let p = r .before .before .before in
-    step (contact taken) (p .before .before .args .rest .now) (p .loop .at) _ _ (p .loop .inv .0) (rw (c .before .got .given .1) at (r .read-contact .ensures))
+    step (source (p .before .before .args .recorded)) (p .before .before .args .rest .now) (p .loop .at) _ _ (p .loop .inv .0) (rw (c .before .got .given .1) at (r .read-contact .ensures))
 
 loop-holds : tie.Need-loop-holds Inv-loop μ-loop
 loop-holds c = (omega arith, refl, refl)
@@ -59,12 +57,12 @@ returns : tie.Need-returns Inv-loop μ-loop
 returns c =
     let r = c .before .before in
     let p = r .before .before .before in
-    let b = stop (contact taken) (p .before .before .args .rest .now) (p .loop .at) _ _ (rw (c .enum-told .given .1) at (r .read-contact .ensures)) in
-    let h = r .before .before .loop-test .taken in
     let a = p .before .before .args in
+    let b = stop (source (a .recorded)) (a .rest .now) (p .loop .at) _ _ (rw (c .enum-told .given .1) at (r .read-contact .ensures)) in
+    let h = r .before .before .loop-test .taken in
     record {
-      table = sym (read-bad _ (p .loop .left) _ _ h b) ∙ p .loop .inv .2;
-      passed = ends-bad (a .n) (a .rest .now) _ (sym (ap skipped (series-bad (λ b. contact taken .read) false (p .loop .left) _ _ h b)) ∙ p .loop .inv .1);
+      table = sym (read-bad (source (a .recorded)) _ (p .loop .left) _ _ h b) ∙ p .loop .inv .2;
+      passed = ends-bad (source (a .recorded)) (a .n) (a .rest .now) _ (sym (ap skipped (series-bad (λ b. source (a .recorded) .read) false (p .loop .left) _ _ h b)) ∙ p .loop .inv .1);
     }
 
 move-contact-requires : tie.Need-move-contact-requires Inv-loop μ-loop
@@ -83,10 +81,11 @@ loop-again : tie.Need-loop-again Inv-loop μ-loop
 loop-again c =
     let k = c .before .before .before .before in
     let r = k .before .before .before in
-    let p = r .before .before .before in (
+    let p = r .before .before .before in
+    let a = p .before .before .args in (
       this k .ends,
-      sym (series-got (λ b. contact taken .read) false (p .loop .left) _ _ _ (r .before .before .loop-test .taken) (this k .reads)) ∙ p .loop .inv .1,
-      read-on _ _ (p .loop .left) (p .loop .at) _ (p .before .before .args .rest .now) _ (r .before .before .loop-test .taken) (this k) (c .move-contact .ensures)
+      sym (series-got (λ b. source (a .recorded) .read) false (p .loop .left) _ _ _ (r .before .before .loop-test .taken) (this k .reads)) ∙ p .loop .inv .1,
+      read-on (source (a .recorded)) _ _ (p .loop .left) (p .loop .at) _ (a .rest .now) _ (r .before .before .loop-test .taken) (this k) (c .move-contact .ensures)
           ∙ p .loop .inv .2,
     )
 
@@ -95,8 +94,8 @@ returns-2 c =
     let p = c .before in
     let a = p .before .before .args in
     record {
-      table = sym (read-end _ (p .loop .left) _ (c .loop-test .left)) ∙ p .loop .inv .2;
-      passed = ends-got (a .n) (a .rest .now) (p .loop .at) (sym (ap skipped (series-end (λ b. contact taken .read) false (p .loop .left) _ (c .loop-test .left))) ∙ p .loop .inv .1) (p .loop .inv .0);
+      table = sym (read-end (source (a .recorded)) _ (p .loop .left) _ (c .loop-test .left)) ∙ p .loop .inv .2;
+      passed = ends-got (source (a .recorded)) (a .n) (a .rest .now) (p .loop .at) (sym (ap skipped (series-end (λ b. source (a .recorded) .read) false (p .loop .left) _ (c .loop-test .left))) ∙ p .loop .inv .1) (p .loop .inv .0);
     }
 
 pub apply-spec : {M : Type 1} → statement M

@@ -20,6 +20,9 @@ time-for-requires c κs = search needs
 answer-to-requires : tie.Need-answer-to-requires
 answer-to-requires c κs = search needs
 
+cast-begun-after : tie.Need-cast-begun-after
+cast-begun-after c = search needs
+
 begun-after-requires : tie.Need-begun-after-requires
 begun-after-requires c κs = search needs
 
@@ -32,7 +35,7 @@ same-length c = search needs
 returns : tie.Need-returns
 returns c =
     let b = c .before in
-    let w = b .before in
+    let w = b .before .before in
     let t = w .before in
     let m = t .before .before .before .before in
     let a = m .before .before .before .before .before .before in
@@ -47,6 +50,7 @@ carry-out-spec =
     run-frames-requires
     time-for-requires
     answer-to-requires
+    cast-begun-after
     begun-after-requires
     ignoring-in-requires
     same-length

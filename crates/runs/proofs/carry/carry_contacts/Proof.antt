@@ -22,7 +22,7 @@ abbrev Inv-loop : tie.InvT-loop
 Inv-loop out₀ rest n states₀ xs₀ ys₀ pos₀ at₀ left₀ out states xs ys pos at left =
     Laying n rest out₀ out pos at left
     × (skipped (contactsOf left (drop at rest)) ≡ skipped (contactsOf n rest))
-    × (afterRead left (tableFrom states xs ys) (drop at rest) ≡ afterRead n (tableFrom states₀ xs₀ ys₀) rest)
+    × (afterRead (contact taken) left (tableFrom states xs ys) (drop at rest) ≡ afterRead (contact taken) n (tableFrom states₀ xs₀ ys₀) rest)
 
 abbrev μ-loop : tie.MeasureT-loop
 μ-loop out₀ rest n states₀ xs₀ ys₀ pos₀ at₀ left₀ out states xs ys pos at left = left
@@ -67,8 +67,8 @@ returns c =
     let b = laying-none _ _ _ _ _ _ _ (p .loop .inv .0) _ (r .read-contact .ensures) _ (c .enum-told .given .1) in
     record {
       table = record {
-        table = sym (read-bad _ (p .loop .left) _ _ h b) ∙ p .loop .inv .2;
-        passed = ends-bad (a .n) (a .rest .now) _ (sym (ap skipped (series-bad (λ b. contact taken .read) false (p .loop .left) _ _ h b)) ∙ p .loop .inv .1);
+        table = sym (read-bad (contact taken) _ (p .loop .left) _ _ h b) ∙ p .loop .inv .2;
+        passed = ends-bad (contact taken) (a .n) (a .rest .now) _ (sym (ap skipped (series-bad (λ b. contact taken .read) false (p .loop .left) _ _ h b)) ∙ p .loop .inv .1);
       };
       output = laying-bad _ _ _ _ _ _ _ (p .loop .inv .0) _ h b;
     }
@@ -113,7 +113,7 @@ loop-again c =
     let one = laying-one _ _ _ _ _ _ _ (p .loop .inv .0) _ (r .read-contact .ensures) _ _ (g .before .got .given .1) in (
       laying-next _ _ _ _ _ _ _ (p .loop .inv .0) _ _ _ _ h one (w .write-contact .ensures),
       sym (series-got (λ b. contact taken .read) false (p .loop .left) _ _ _ h (one .reads)) ∙ p .loop .inv .1,
-      read-on _ _ (p .loop .left) (p .loop .at) _ (p .before .before .before .args .rest .now) _ h one (c .move-contact .ensures) ∙ p .loop .inv .2,
+      read-on (contact taken) _ _ (p .loop .left) (p .loop .at) _ (p .before .before .before .args .rest .now) _ h one (c .move-contact .ensures) ∙ p .loop .inv .2,
     )
 
 same-length-2 : tie.Need-same-length-2 Inv-loop μ-loop
@@ -126,8 +126,8 @@ returns-2 c =
     let h = c .loop-test .left in
     record {
       table = record {
-        table = sym (read-end _ (p .loop .left) _ h) ∙ p .loop .inv .2;
-        passed = ends-got (a .n) (a .rest .now) (p .loop .at) (sym (ap skipped (series-end (λ b. contact taken .read) false (p .loop .left) _ h)) ∙ p .loop .inv .1) (p .loop .inv .0 .inside);
+        table = sym (read-end (contact taken) _ (p .loop .left) _ h) ∙ p .loop .inv .2;
+        passed = ends-got (contact taken) (a .n) (a .rest .now) (p .loop .at) (sym (ap skipped (series-end (λ b. contact taken .read) false (p .loop .left) _ h)) ∙ p .loop .inv .1) (p .loop .inv .0 .inside);
       };
       output = laying-done _ _ _ _ _ _ _ (p .loop .inv .0) h;
     }

@@ -17,12 +17,12 @@ enum-told c = search needs
 returns : tie.Need-returns
 returns c =
     let w = rw (c .before .end .given .1) at (c .before .before .before .skip-contacts .ensures) in
-    ends-got _ _ _ (w .same) (w .inside)
+    ends-got _ _ _ _ (w .same) (w .inside)
 
 returns-2 : tie.Need-returns-2
 returns-2 c =
     let w = rw (c .enum-told .given .1) at (c .before .before .skip-contacts .ensures) in
-    ends-bad _ _ _ (w .same)
+    ends-bad _ _ _ _ (w .same)
 
 pub skip-spec : {M : Type 1} → statement M
 skip-spec = tie.close (tie.spec skip-contacts-requires enum-known-end enum-told returns returns-2)

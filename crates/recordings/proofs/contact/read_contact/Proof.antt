@@ -1,0 +1,80 @@
+-- `recordings::contact::read_contact` meets its contract: where a contact's record stands, a contact is read.
+-- Assumes nothing.
+use Prim.Native.Nat.{ℕ}
+use mathlib.Core.Path.{_≡_, sym, ap, _∙_}
+use mathlib.Core.Bool.{true}
+use mathlib.Core.List.{List}
+use native.Mathlib.Omega.{arith}
+use lib.ListN.{take, drop}
+use borrow.Author.Needs.{needs}
+use borrow.Author.Tests.{not-true, not-false}
+use Rattle.formats.specs.Format.{got}
+use Rattle.house.specs.Layout.{contactOf}
+use Rattle.house.specs.declared.Record.the-variants as Record
+use Rattle.recordings.specs.Records.{stands}
+use Rattle.recordings.specs.Answer.{kindIn}
+use Rattle.recordings.proofs.Records.{stood, contact-is}
+use Rattle.recordings.proofs.Judged.{contact-stands, contact-fails}
+use Rattle.recordings.proofs.contact.read_contact.Statement.{statement}
+use Rattle.recordings.proofs.contact.read_contact.Tie as tie
+
+abbrev lent : tie.After-read-record → List ℕ
+lent c = c .before .before .before .before .args .records .now
+
+touched : (c : tie.After-read-record) → stands 1 (lent c) ≡ true
+touched c = sym (c .before .before .is-standing .ensures) ∙ not-false _ (c .before .if1 .left)
+
+found : (c : tie.After-read-record) → c .read-record .result ≡ Record.Contact 1 (contactOf (take 21 (lent c)))
+found c = c .read-record .ensures ∙ contact-is (lent c) (stood 1 (lent c) (touched c))
+
+is-standing-requires : tie.Need-is-standing-requires
+is-standing-requires c κs = search needs
+
+returns : tie.Need-returns
+returns c = record { same = sym (contact-fails _ (sym (c .before .is-standing .ensures) ∙ not-true _ (c .if1 .taken))); inside = omega arith }
+
+read-record-requires : tie.Need-read-record-requires
+read-record-requires c κs = search needs
+
+enum-told : tie.Need-enum-told
+enum-told c = search needs
+
+enum-known-contact : tie.Need-enum-known-contact
+enum-known-contact c = search needs
+
+enum-known-e : tie.Need-enum-known-e
+enum-known-e c = search needs
+
+returns-2 : tie.Need-returns-2
+returns-2 c =
+    let k = ap kindIn (sym (c .enum-told .given .1) ∙ found (c .before .before)) in
+    absurd (omega (arith, k))
+
+returns-3 : tie.Need-returns-3
+returns-3 c =
+    let r = c .before .before .before in
+    let same-record = sym (c .before .contact .given .1) ∙ found r in
+    let same-contact : c .before .contact .given .0 .1 .0 ≡ contactOf (take 21 (lent r)) = cc in
+    record {
+      same = ap (λ x. got x (drop 21 (lent r))) same-contact ∙ sym (contact-stands (lent r) 0 (touched r));
+      inside = stood 1 (lent r) (touched r) .long;
+    }
+
+returns-4 : tie.Need-returns-4
+returns-4 c =
+    let k = ap kindIn (sym (c .before .e .given .1) ∙ found (c .before .before .before)) in
+    absurd (omega (arith, k))
+
+pub read-contact-spec : {M : Type 1} → statement M
+read-contact-spec =
+    tie.close
+    (tie.spec
+    is-standing-requires
+    returns
+    read-record-requires
+    enum-told
+    enum-known-contact
+    enum-known-e
+    returns-2
+    returns-3
+    returns-4)

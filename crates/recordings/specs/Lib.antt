@@ -1,0 +1,3 @@
+-- The records of frames.
+pub mod Records
+pub mod Answer

@@ -1,0 +1,2 @@
+-- What a panel sends, delivered to a receiver.
+pub mod Delivery

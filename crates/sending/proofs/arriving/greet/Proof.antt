@@ -1,0 +1,29 @@
+-- `sending::arriving::greet` meets its contract.
+-- Assumes nothing.
+use borrow.Author.Needs.{needs}
+use Rattle.sending.proofs.Arrivals.{greet-refused, greet-taken}
+use Rattle.sending.proofs.arriving.greet.Statement.{statement}
+use Rattle.sending.proofs.arriving.greet.Tie as tie
+
+read-server-ready-requires : tie.Need-read-server-ready-requires
+read-server-ready-requires c κs = search needs
+
+enum-known-e : tie.Need-enum-known-e
+enum-known-e c = search needs
+
+refuse-requires : tie.Need-refuse-requires
+refuse-requires c κs = search needs
+
+enum-told : tie.Need-enum-told
+enum-told c = search needs
+
+returns : tie.Need-returns
+returns c o =
+    let e = c .before .before in
+    greet-refused _ _ _ o _ (e .before .before .read-server-ready .ensures) _ (e .e .given .1) _ (c .refuse .ensures)
+
+returns-2 : tie.Need-returns-2
+returns-2 c o = greet-taken _ _ _ o _ (c .before .before .read-server-ready .ensures) _ (c .enum-told .given .1)
+
+pub greet-spec : {M : Type 1} → statement M
+greet-spec = tie.close (tie.spec read-server-ready-requires enum-known-e refuse-requires enum-told returns returns-2)

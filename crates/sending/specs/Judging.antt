@@ -1,0 +1,101 @@
+-- What the inner functions answer: of a message that arrives, and of the frames of records, one after the other.
+use Prim.Native.Nat.{ℕ, _≤_}
+use mathlib.Core.Path.{_≡_}
+use mathlib.Core.Bool.{Bool, true, cond, not}
+use mathlib.Core.List.{List}
+use lib.ListN.{length, drop}
+use Rattle.paper.specs.Refusals.{none, notReady, badOffset}
+use Rattle.paper.specs.Refusals as refusals
+use Rattle.formats.specs.Format.{Got, got, bad, andThen}
+use Rattle.house.specs.declared.Contact.{Contact}
+use Rattle.house.specs.declared.Record.{Record}
+use Rattle.house.specs.declared.Record.the-variants as Record
+use Rattle.messages.specs.declared.Ready.{Ready}
+use Rattle.framing.specs.Frame.{Frame}
+use Rattle.channel.specs.Marks.{off}
+use Rattle.recordings.specs.Records.{frameRecords, framesIn}
+use Rattle.machine.specs.Table.{Table}
+use Rattle.machine.specs.Rules.{Rules}
+use Rattle.machine.specs.Conforms.{tableAfter, conforms}
+use Rattle.machine.specs.Machine.{Machine, runMachine, allConform}
+use Rattle.contacts.specs.Touch.{touchView}
+use Rattle.contacts.specs.Ruling.{Counted}
+use Rattle.sending.specs.Panel.{panelMachine, panelRules, offsetStands, Takes}
+use Rattle.sending.specs.declared.Panel.{Panel}
+use Rattle.sending.specs.declared.Arrival.{Arrival}
+use Rattle.sending.specs.declared.Step.{Step}
+
+-- ---- what arrives
+
+-- a panel with these two marks
+abbrev pub markedAs : Panel → ℕ → ℕ → Panel
+markedAs p greeted suspended =
+    record { greeted = greeted; ready = p .ready; suspended = suspended; begun = p .begun; settings = p .settings; states = p .states; xs = p .xs; ys = p .ys }
+
+-- what becomes of the marks is what becomes of any panel that has them
+abbrev pub Arrives : ℕ → ℕ → List ℕ → Arrival → Type 0
+Arrives greeted suspended message a =
+    (p : Panel) → Takes (markedAs p greeted suspended) message (markedAs p (a .greeted) (a .suspended)) (a .refusal)
+
+-- ---- frames of records
+
+-- the machine of a table that is lent
+abbrev pub running : Table → Machine
+running t = record { table = t; running = true }
+
+-- records that begin with a whole frame
+pub record BeginsFrame (l : List ℕ) : Type 0 where
+  pub frame : Frame Contact
+  pub after : List ℕ
+  pub read : frameRecords .read l ≡ got frame after
+
+-- records that are whole frames
+pub record AreFrames (l : List ℕ) : Type 0 where
+  pub frames : List (Frame Contact)
+  pub after : List ℕ
+  pub read : framesIn l ≡ got frames after
+
+-- whether the frame f at the front of l conforms; and where it does, the table that it leaves, how many are active then, and where the rest begins
+pub record StepsOver (rules : Rules Contact) (f : Frame Contact) (rest l : List ℕ) (r : Step) (t u : Table) : Type 0 where
+  pub judged : r .conforms ≡ conforms touchView rules t (f .contacts)
+  pub table : r .conforms ≡ true → u ≡ tableAfter touchView (rules .next) t (f .contacts)
+  pub counted : r .conforms ≡ true → Counted (r .active) (u .states)
+  pub ends : r .conforms ≡ true → drop (r .end) l ≡ rest
+  pub inside : r .end ≤ length l
+
+abbrev pub Steps : Rules Contact → ℕ → List ℕ → Step → Table → Table → Type 0
+Steps rules active l r t u = (f : Frame Contact) (rest : List ℕ) → frameRecords .read l ≡ got f rest → Counted active (t .states) → StepsOver rules f rest l r t u
+
+-- whether the frames of records all conform, and the table that they leave where they do
+pub record RunsThrough (rules : Rules Contact) (l : List ℕ) (r : Bool) (t u : Table) : Type 0 where
+  pub judged : (fs : List (Frame Contact)) (rest : List ℕ) → framesIn l ≡ got fs rest → r ≡ allConform touchView rules (running t) fs
+  pub table : (fs : List (Frame Contact)) (rest : List ℕ) → framesIn l ≡ got fs rest → r ≡ true → running u ≡ runMachine touchView rules (running t) fs
+
+-- the offset of a head, and 0 of any other record
+abbrev pub offsetIn : Record → ℕ
+offsetIn (Record.Head h) = h .offset .0
+offsetIn (Record.Contact kind c) = 0
+offsetIn (Record.Refused e) = 0
+
+-- ---- a touch message
+
+-- 15 and 16, of frames that have passed 10 and 14
+abbrev pub permitted : ℕ → ℕ → Got (List (Frame Contact)) → Got (List (Frame Contact))
+permitted ready suspended x =
+    andThen x (λ fs t. cond (off ready) (bad notReady) (cond (not (off suspended)) (bad refusals.suspended) (got fs t)))
+
+-- 17, then 11; 0 where neither is given
+abbrev pub faultOf : Panel → List (Frame Contact) → ℕ
+faultOf p fs =
+    cond (not (allConform touchView (panelRules p) (panelMachine p) fs)) refusals.illegal
+    (cond (not (offsetStands p fs)) badOffset none)
+
+-- .. of the frames of records, and the table that they leave
+pub record Faults (p : Panel) (l : List ℕ) (r : ℕ) (u : Table) : Type 0 where
+  pub fault : (fs : List (Frame Contact)) (rest : List ℕ) → framesIn l ≡ got fs rest → r ≡ faultOf p fs
+  pub table : (fs : List (Frame Contact)) (rest : List ℕ) → framesIn l ≡ got fs rest → r ≡ none → running u ≡ runMachine touchView (panelRules p) (panelMachine p) fs
+
+-- a panel with these settings, first-frame mark and table
+abbrev pub partedAs : Panel → Ready → ℕ → Table → Panel
+partedAs p settings begun t =
+    record { greeted = p .greeted; ready = p .ready; suspended = p .suspended; begun = begun; settings = settings; states = t .states; xs = t .xs; ys = t .ys }

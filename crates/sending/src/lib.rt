@@ -1,0 +1,78 @@
+// The panel's sending side: what arrives is taken, and client ready, touch and dismiss are written, each so that the session host
+// takes it.
+mod arriving;
+mod judging;
+mod writers;
+
+use messages::Ready;
+use slices::Written;
+ghost use mathlib.Core.Path.{_≡_};
+ghost use Rattle.sending.specs.Panel.{freshPanel};
+pub use arriving::take;
+pub use writers::write_dismiss;
+pub use writers::write_ready;
+pub use writers::write_touch;
+
+// One panel. Each mark is off where it is 0; a fresh panel is all zeros.
+#[repr(C)]
+pub struct Panel {
+    // Has taken a server ready.
+    pub greeted: u8,
+    // Has written a client ready.
+    pub ready: u8,
+    // Writes no touch until a resume.
+    pub suspended: u8,
+    // Has written a touch message with a frame.
+    pub begun: u8,
+    // What its client ready declared.
+    pub settings: Ready,
+    pub states: [u8; 256],
+    pub xs: [i32; 256],
+    pub ys: [i32; 256],
+}
+
+// The marks that a message changes, and its refusal, 0 for none.
+pub(crate) struct Arrival {
+    pub greeted: u8,
+    pub suspended: u8,
+    pub refusal: u8,
+}
+
+// A frame of records: whether it conforms, how many contacts are active after it, and where it ends.
+pub(crate) struct Step {
+    pub conforms: bool,
+    pub active: u16,
+    pub end: usize,
+}
+
+// The panel after a message that arrived, and the refusal, 0 for none.
+pub struct Arrived {
+    pub panel: Panel,
+    pub refusal: u8,
+}
+
+// The panel after a call that writes, and what it wrote.
+pub struct Outgoing {
+    pub panel: Panel,
+    pub written: Written,
+}
+
+// A panel that has taken and written nothing.
+pub fn fresh() -> Panel
+    ensures { λ r. ⌜ r ≡ freshPanel ⌝ }
+{
+    Panel {
+        greeted: 0,
+        ready: 0,
+        suspended: 0,
+        begun: 0,
+        settings: Ready {
+            flags: 0,
+            version: 0,
+            most: 0,
+        },
+        states: [0; 256],
+        xs: [0; 256],
+        ys: [0; 256],
+    }
+}

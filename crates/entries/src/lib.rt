@@ -1,4 +1,8 @@
 // Document 01, "A bench file": entries of a 16-bit length, most significant byte first, then a message.
+mod numbers;
+
+pub use numbers::join_four;
+pub use numbers::join_two;
 ghost use mathlib.Core.Path.{_≡_};
 ghost use Prim.Native.Nat.{_+_, _*_};
 ghost use Rattle.entries.specs.Entries.{frontOf};

@@ -60,6 +60,11 @@ byte-stored d at b h = rw (drop-drop 1 at d, add-one at) (set-split d at b h)
 
 -- ---- several
 
+-- no text adds nothing
+pub added-none : (at : ℕ) (d : List ℕ) → Added [] at at d d
+unfolding addAll
+added-none at d = record { all = refl; long = refl; inside = λ h. h }
+
 pub all-append : (ss ts : List (List ℕ)) (p : Placed) → addAll (ss ++ ts) p ≡ addAll ts (addAll ss p)
 unfolding addAll
 all-append [] ts p = refl

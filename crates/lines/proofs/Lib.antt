@@ -1,3 +1,4 @@
 pub mod Adding
 pub mod Decimal
+pub mod Hexes
 pub mod Unique

@@ -3,9 +3,10 @@ use Prim.Native.Nat.{ℕ, zero, suc, _+_, _/_, _%_, _≤_}
 use mathlib.Core.Path.{_≡_}
 use mathlib.Core.Bool.{Bool, cond}
 use mathlib.Core.List.{List, [], _∷_, _++_}
-use lib.Dec.{leb, ltb}
+use lib.Dec.{eqb, leb, ltb}
 use lib.ListN.{length, take, drop}
 use Rattle.slices.specs.Writing.{laid}
+use Rattle.slices.specs.declared.Written.{Written}
 use Rattle.io.specs.Digits.{glyph}
 
 -- ---- texts, one after the other
@@ -49,6 +50,11 @@ decimal n = decimalFrom 19 n
 abbrev pub hexOf : ℕ → List ℕ
 hexOf b = glyph (b / 16) ∷ glyph (b % 16) ∷ []
 
+-- bytes in hexadecimal, one after the other
+unfoldable pub hexes : List ℕ → List (List ℕ)
+hexes [] = []
+hexes (b ∷ bs) = hexOf b ∷ hexes bs
+
 -- what stands between two numbers, and at the end of a line
 abbrev pub space : List ℕ
 space = 32 ∷ []
@@ -59,3 +65,11 @@ lineEnd = 10 ∷ []
 -- " cut" and the end of the line
 abbrev pub cutWord : List ℕ
 cutWord = 32 ∷ 99 ∷ 117 ∷ 116 ∷ 10 ∷ []
+
+-- the first n bytes in hexadecimal after a space, where n are there; no space for none
+unfoldable pub frontText : ℕ → List ℕ → List (List ℕ)
+frontText n bytes = cond (eqb n 0) [] (cond (leb n (length bytes)) (space ∷ hexes (take n bytes)) [])
+
+-- a writer's answer in numbers, and then what it wrote, which stands at the front of its output
+abbrev pub writtenText : Written → List ℕ → List (List ℕ)
+writtenText w output = space ∷ decimal (w .refusal) ∷ space ∷ decimal (w .bytes) ∷ frontText (w .bytes) output

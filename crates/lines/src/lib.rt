@@ -1,8 +1,9 @@
 // Lines of text on a lent page, so that a program writes many of them at once.
+use slices::Written;
 ghost use mathlib.Core.Path.{_≡_};
 ghost use Prim.Native.Nat.{_<_, _≤_};
 ghost use mathlib.Core.List.{[], _∷_};
-ghost use Rattle.lines.specs.Page.{Added, decimal, hexOf, space, cutWord};
+ghost use Rattle.lines.specs.Page.{Added, decimal, hexOf, hexes, space, cutWord, frontText, writtenText};
 ghost use Rattle.io.specs.Digits.{glyph as glyphOf};
 
 // Adds text at a place of a page, and answers the place after it; where there is no room the page stays as it was.
@@ -45,11 +46,47 @@ pub fn add_field(page: &mut [u8], at: usize, n: u64) -> usize
 }
 
 // Adds a byte in hexadecimal, two digits.
-pub fn add_hex(page: &mut [u8], at: usize, byte: u8) -> usize
+fn add_hex(page: &mut [u8], at: usize, byte: u8) -> usize
     ensures { λ r. ⌜ Added (hexOf byte ∷ []) at r (now (page .entry)) (now (page .exit)) ⌝ }
 {
     let text = [glyph(byte / 16), glyph(byte % 16)];
     add_text(page, at, &text)
+}
+
+// Adds bytes in hexadecimal.
+fn add_hexes(page: &mut [u8], place: usize, bytes: &[u8]) -> usize
+    ensures { λ r. ⌜ Added (hexes (now (bytes .entry))) place r (now (page .entry)) (now (page .exit)) ⌝ }
+{
+    let mut at = place;
+    let mut i: usize = 0;
+    while i < bytes.len() {
+        at = add_hex(page, at, bytes[i]);
+        i += 1;
+    }
+    at
+}
+
+// Adds a space and the first n bytes in hexadecimal; nothing where there are none, or fewer.
+fn add_front(page: &mut [u8], at: usize, n: usize, bytes: &[u8]) -> usize
+    ensures { λ r. ⌜ Added (frontText n (now (bytes .entry))) at r (now (page .entry)) (now (page .exit)) ⌝ }
+{
+    if n == 0 {
+        return at;
+    }
+    if bytes.len() < n {
+        return at;
+    }
+    let digits = add_byte(page, at, b' ');
+    add_hexes(page, digits, &bytes[..n])
+}
+
+// Adds what a writer answered, the refusal and how many bytes it wrote, and then these, which stand at the front of its output.
+pub fn add_written(page: &mut [u8], at: usize, written: Written, output: &[u8]) -> usize
+    ensures { λ r. ⌜ Added (writtenText written (now (output .entry))) at r (now (page .entry)) (now (page .exit)) ⌝ }
+{
+    let refused = add_field(page, at, written.refusal as u64);
+    let counted = add_field(page, refused, written.bytes as u64);
+    add_front(page, counted, written.bytes, output)
 }
 
 // The digit of a number below 16, in ASCII and lower case.

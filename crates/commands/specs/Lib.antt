@@ -1,0 +1,2 @@
+-- The commands of the programs over a panel.
+pub mod Commands

@@ -5,7 +5,16 @@ from collections import Counter
 import corpus
 from corpus import contact, frame, touch
 from reference import house, messages, programs, receiver
-from reference.receiver import ENGAGED, HOVERING, NEXT_STATE, OUT, POSITION_KEPT
+from reference.keeper import (
+    ENGAGED,
+    HOVERING,
+    NEXT_STATE,
+    OUT,
+    POSITION_KEPT,
+    each_legal,
+    no_id_twice,
+    positions_obey,
+)
 
 IGNORING = "ignoring"
 STARTS = (OUT, HOVERING, ENGAGED)
@@ -103,11 +112,11 @@ class History:
 
 def fault(keeper, one):
     """The first of the four rules that a frame breaks."""
-    if not receiver.no_id_twice(one):
+    if not no_id_twice(one):
         return "an id twice"
-    if not receiver.each_legal(keeper, one):
+    if not each_legal(keeper, one):
         return "an illegal contact"
-    if not receiver.positions_obey(keeper, one):
+    if not positions_obey(keeper, one):
         return "a position"
     return "too many active"
 

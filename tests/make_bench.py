@@ -24,7 +24,7 @@ from histories import (
 )
 from reference import entries, house, integers, programs, receiver
 from reference.integers import S4, U4, U8
-from reference.receiver import ENGAGED, HOVERING, OUT, POSITION_KEPT
+from reference.keeper import ENGAGED, HOVERING, OUT, POSITION_KEPT
 
 SEED = 20260105
 

@@ -4,9 +4,11 @@ import random
 import sys
 
 import corpus
+import make_panel
 import make_plain
+import panels
 from corpus import contact, frame
-from reference import entries, house, integers, messages, programs, receiver
+from reference import entries, house, integers, messages, panel, programs, receiver
 from reference.integers import S2, S4, U2, U4, U8
 from reference.refusals import Refused
 
@@ -338,6 +340,138 @@ def check_round_trip(rng):
         same(message.hex(), line.split(" ")[0] + line[-5:], "0 same")
 
 
+# The panel: a file with its bytes written out, what 'panel' prints for it and what 'sent' writes.
+
+HEAD = "01" + " 00" * 20
+DOWN_RECORD, LIFT_RECORD, UPDATE_RECORD = (
+    f"{first} 00 20 00 00 32 00 00 00 64" + " 00" * 11 for first in ("59", "44", "5A")
+)
+
+PANEL_FILE = (
+    ("02 00 10 00 00 00 00 00 01 00 01 00 0A", "15 0"),
+    ("01 01 00 0A 00 00 00 01 00 01 00", "0 0"),
+    ("02 00 10 00 00 00 00 00 01 00 01 00 0A", "0 16 02001000000000000000010001000a00"),
+    (f"03 10 00 00 00 00 00 {HEAD} {DOWN_RECORD}", "0 17 0300110000000001010001004064403219"),
+    ("01 04 00 06 00 00 00", "0 0"),
+    (f"03 10 00 00 00 00 00 {HEAD} {LIFT_RECORD}", "16 0"),
+    ("06 10 00 01", "17 0"),
+    ("01 05 00 06 00 00 00", "0 0"),
+    (f"03 00 10 00 00 00 00 {HEAD} {LIFT_RECORD}", "13 0"),
+    (f"03 00 11 00 00 00 00 {HEAD} {LIFT_RECORD}", "0 17 0300110000000001010001004064403204"),
+    (f"03 10 00 00 00 00 00 {HEAD} {UPDATE_RECORD}", "17 0"),
+    ("", "bad"),
+    ("01", "1 0"),
+)
+
+
+def check_panel_file():
+    data = entries.join(bytes.fromhex(text) for text, _ in PANEL_FILE)
+    want = "".join(f"{number} {line}\n" for number, (_, line) in enumerate(PANEL_FILE, 1))
+    written = entries.join(bytes.fromhex(text) for text in BENCH_ENTRIES[:3])
+    same("panel file", programs.panel(data), want)
+    same("panel file sent", programs.sent(data), written)
+    same("panel file cut", programs.panel(data + b"\0\4\6\x10\0"), want + "14 cut\n")
+    same("panel file cut, sent", programs.sent(data + b"\0\7\3\x10\0\0\0\0"), written)
+    same("no panel file", (programs.panel(b""), programs.sent(b"")), ("", b""))
+
+
+# The panel's rules, call by call: the entry and its refusal.
+
+TAKEN = (panels.take(panels.server_ready(0x00010000)), 0)
+SUSPENDED, RESUMED = (panels.take(panels.SUSPEND), 0), (panels.take(panels.RESUME), 0)
+TIMED, TIMELESS = (panels.ready(0, 0x00010001, 2), 0), (panels.ready(2, 0x00010001, 2), 0)
+LEAVES = contact(2, 0x02, 9, 9)
+
+PANEL_RULES = (
+    ("before server ready only 1 is taken, afterwards only 4 and 5", (
+        (panels.take(panels.SUSPEND), 3),
+        (panels.take(panels.RESUME), 3),
+        (TIMED[0], 15),
+        TAKEN,
+        (TAKEN[0], 3),
+        (panels.take(corpus.client_ready(0, 0x00010001, 2)), 3),
+        SUSPENDED,
+        TIMED,
+        (TIMED[0], 15),
+    )),
+    ("suspending", (
+        TAKEN,
+        SUSPENDED,
+        (panels.touch(), 15),
+        TIMED,
+        (panels.touch(), 16),
+        RESUMED,
+        RESUMED,
+        (panels.touch(frame(DOWN, HOVER)), 0),
+        SUSPENDED,
+        SUSPENDED,
+        (panels.touch(frame(LIFT)), 16),
+        (panels.dismiss(1), 17),
+        (panels.dismiss(2), 0),
+        (panels.dismiss(2), 17),
+        RESUMED,
+        (panels.touch(frame(LEAVES)), 17),
+        (panels.touch(frame(LIFT)), 0),
+    )),
+    ("the first frame's offset", (
+        TAKEN,
+        TIMED,
+        (panels.touch(time=8), 0),
+        (panels.touch(frame(DOWN, offset=1)), 11),
+        (panels.touch(frame(UPDATE, offset=1)), 17),
+        (panels.touch(frame(), frame(DOWN, offset=1)), 0),
+        (panels.touch(frame(UPDATE, offset=1)), 0),
+    )),
+    ("no timestamps", (
+        TAKEN,
+        TIMELESS,
+        (panels.touch(frame(DOWN, offset=5), time=8), 0),
+    )),
+    ("a refusal leaves the contacts as they were", (
+        TAKEN,
+        TIMED,
+        (panels.touch(frame(DOWN), frame(HOVER), frame(contact(3, 0x19))), 17),
+        (panels.touch(frame(DOWN), frame(HOVER), room=21), 13),
+        (panels.touch(*[frame(DOWN)] + [frame()] * 64), 7),
+        (panels.touch(*[frame(DOWN)] + [frame()] * 63 + [frame(DOWN)]), 17),
+        (panels.touch(frame(DOWN), frame(HOVER), room=22), 0),
+        (panels.touch(frame(contact(1, 0x04, 6, 6))), 17),
+        (panels.touch(frame(LIFT, LEAVES)), 0),
+    )),
+)
+
+
+def check_panel_rules():
+    for rule, steps in PANEL_RULES:
+        client = panel.Panel()
+        for number, (entry, want) in enumerate(steps, 1):
+            client, answer, _ = programs.call(client, entry)
+            same(f"{rule}, call {number}", answer.refusal, want)
+
+
+def check_panel_output():
+    """A refusal leaves the output as it was; a message touches nothing past it."""
+    client, _ = panel.take(panel.Panel(), panels.server_ready(0x00010001))
+    settings = messages.ClientReady(0, 0x00010001, 10)
+    out = bytearray(b"\xee" * 15)
+    same("no room", panel.write_ready(client, out, settings), (client, (13, 0)))
+    same("untouched", bytes(out), b"\xee" * 15)
+    out = bytearray(b"\xee" * 17)
+    same("room", panel.write_ready(client, out, settings)[1], (0, 16))
+    same("nothing past", bytes(out), bytes.fromhex(BENCH_ENTRIES[0]) + b"\xee")
+
+
+def check_panel_corpora():
+    """Both programs on both corpora, and what was sent into the receiver."""
+    for calls in (make_panel.panel_calls(), make_panel.sent_calls()):
+        data = make_panel.input_of(calls)
+        lines = [line.split(" ") for line in programs.panel(data).splitlines()]
+        sent_messages = programs.sent(data)
+        same("sent", entries.split(sent_messages), ([bytes.fromhex(words[3]) for words in lines if words[3:]], False))
+        answers = [line.split(" ") for line in programs.bench(sent_messages).splitlines()]
+        same("bench", {(words[1], words[3], words[4]) for words in answers}, {("0", "0", "0")})
+
+
 def main():
     rng = random.Random(SEED)
     check_integers()
@@ -353,6 +487,10 @@ def main():
     check_house(rng)
     check_messages()
     check_round_trip(rng)
+    check_panel_file()
+    check_panel_rules()
+    check_panel_output()
+    check_panel_corpora()
     for difference in differences:
         print(difference)
     print("differences", len(differences))

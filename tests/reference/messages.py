@@ -240,14 +240,16 @@ def write_server_ready(out, protocol_version):
 
 def write_client_ready(out, flags, protocol_version, max_touch_contacts):
     """Checks 8, then 13."""
+    ready = ClientReady(flags, protocol_version, max_touch_contacts)
+    return written(out, lambda: client_ready_message(ready))
 
-    def make():
-        refuse_unless(flags & ~ALL_READY_FLAGS == 0, BAD_FIELD)
-        refuse_unless(protocol_version in VERSIONS, BAD_FIELD)
-        body = flags.to_bytes(4, "little") + protocol_version.to_bytes(4, "little")
-        return message_of(CLIENT_READY, body + max_touch_contacts.to_bytes(2, "little"))
 
-    return written(out, make)
+def client_ready_message(ready):
+    """Checks 8: the flags, then the version."""
+    refuse_unless(ready.flags & ~ALL_READY_FLAGS == 0, BAD_FIELD)
+    refuse_unless(ready.version in VERSIONS, BAD_FIELD)
+    body = ready.flags.to_bytes(4, "little") + ready.version.to_bytes(4, "little")
+    return message_of(CLIENT_READY, body + ready.max_touch_contacts.to_bytes(2, "little"))
 
 
 def write_suspend(out):
@@ -259,22 +261,31 @@ def write_resume(out):
 
 
 def write_dismiss(out, contact_id):
-    return written(out, lambda: message_of(DISMISS, bytes([contact_id])))
+    return written(out, lambda: dismiss_message(contact_id))
+
+
+def dismiss_message(contact_id):
+    return message_of(DISMISS, bytes([contact_id]))
 
 
 def write_touch(out, encode_time, records):
     """Checks 10 (encodeTime), 14 over all records, 7, 2, 13."""
+    return written(out, lambda: touch_message(touch_of(encode_time, records)))
 
-    def make():
-        time = integers.encode(U4, encode_time)
-        frames = frames_of(records)
-        refuse_unless(len(frames) <= MOST_FRAMES, BAD_COUNT)
-        body = time + integers.encode(U2, len(frames)) + b"".join(map(frame_bytes, frames))
-        message = message_of(TOUCH, body)
-        refuse_unless(len(message) <= LONGEST_MESSAGE, TOO_LONG)
-        return message
 
-    return written(out, make)
+def touch_of(encode_time, records):
+    """What a writer is given: checks 10 (encodeTime), then 14 over all records."""
+    refuse_unless(U4.lowest <= encode_time <= U4.highest, BAD_RANGE)
+    return Touch(encode_time, frames_of(records))
+
+
+def touch_message(touch):
+    """Checks 7, then 2."""
+    refuse_unless(len(touch.frames) <= MOST_FRAMES, BAD_COUNT)
+    body = integers.encode(U4, touch.encode_time) + integers.encode(U2, len(touch.frames))
+    message = message_of(TOUCH, body + b"".join(map(frame_bytes, touch.frames)))
+    refuse_unless(len(message) <= LONGEST_MESSAGE, TOO_LONG)
+    return message
 
 
 def frames_of(records):
@@ -290,7 +301,7 @@ def frames_of(records):
             contacts.append(take_record(records, at, house.CONTACT_KIND))
             at += house.LENGTH
         frames.append(Frame(head.offset, tuple(contacts)))
-    return frames
+    return tuple(frames)
 
 
 def take_record(records, at, kind):

@@ -1,11 +1,13 @@
 """What each test program prints for a given standard input."""
 
 from . import entries, house, integers, messages, receiver
-from .output import written
+from .output import Written, written
+from .panel import Panel, take, write_dismiss, write_ready, write_touch
 from .refusals import BAD_RECORD, NONE, Refused
 
 LENT_TO_READERS = 48 * 1024
 LENT_TO_TOUCH_WRITER = messages.LONGEST_MESSAGE
+MOST_LENT_TO_PANEL = messages.LONGEST_MESSAGE
 LONGEST_LENT_TO_VECTORS = 32
 FILLING = 0xEE
 
@@ -17,6 +19,11 @@ def lines(data, line):
     if cut:
         texts.append(f"{len(payloads) + 1} cut\n")
     return "".join(texts)
+
+
+def big_endian(data):
+    """Numbers inside an entry are most significant first."""
+    return int.from_bytes(data, "big")
 
 
 # bench, records and in_place: one fresh receiver takes all entries
@@ -93,11 +100,88 @@ def writer_line(payload):
     if len(payload) < 4:
         return "short"
     output = bytearray(LENT_TO_TOUCH_WRITER)
-    answer = messages.write_touch(output, int.from_bytes(payload[:4], "big"), payload[4:])
+    answer = messages.write_touch(output, big_endian(payload[:4]), payload[4:])
+    return written_line(answer, output[: answer.bytes])
+
+
+def written_line(answer, message):
     text = f"{answer.refusal} {answer.bytes}"
-    if answer.refusal != NONE:
-        return text
-    return f"{text} {output[: answer.bytes].hex()}"
+    return f"{text} {message.hex()}" if message else text
+
+
+# panel and sent: one fresh panel, to which each entry is a call
+
+
+def panel(data):
+    calls = called(data)
+
+    def line(_payload):
+        answer, message = next(calls)
+        return "bad" if answer is None else written_line(answer, message)
+
+    return lines(data, line)
+
+
+def sent(data):
+    """A bench file of the messages that were written."""
+    return entries.join(message for _, message in called(data) if message)
+
+
+def called(data):
+    """Each complete entry's answer, None for a bad one, and the message that it wrote."""
+    payloads, _ = entries.split(data)
+    client = Panel()
+    for payload in payloads:
+        client, answer, message = call(client, payload)
+        yield answer, message
+
+
+def call(client, payload):
+    """The panel after an entry, the answer and the message written."""
+    run = CALLS.get(payload[:1])
+    return (run and run(client, payload[1:])) or (client, None, b"")
+
+
+def take_call(client, message):
+    after, refusal = take(client, message)
+    return after, Written(refusal, 0), b""
+
+
+def ready_call(client, rest):
+    """Room, flags, version, maxTouchContacts."""
+    if len(rest) != 12:
+        return None
+    ready = messages.ClientReady(big_endian(rest[2:6]), big_endian(rest[6:10]), big_endian(rest[10:12]))
+    return lent_call(rest, lambda out: write_ready(client, out, ready))
+
+
+def touch_call(client, rest):
+    """Room, encode time, records."""
+    if len(rest) < 6:
+        return None
+    return lent_call(rest, lambda out: write_touch(client, out, big_endian(rest[2:6]), rest[6:]))
+
+
+def dismiss_call(client, rest):
+    """Room, contact id."""
+    if len(rest) != 3:
+        return None
+    return lent_call(rest, lambda out: write_dismiss(client, out, rest[2]))
+
+
+def lent_call(rest, write):
+    """A call that is lent as many bytes of output as the entry's first two say."""
+    out = bytearray(min(big_endian(rest[:2]), MOST_LENT_TO_PANEL))
+    after, answer = write(out)
+    return after, answer, bytes(out[: answer.bytes])
+
+
+CALLS = {
+    b"\1": take_call,
+    b"\2": ready_call,
+    b"\3": touch_call,
+    b"\6": dismiss_call,
+}
 
 
 # vectors
@@ -135,7 +219,7 @@ def head_line(rest):
     """Count, eight bytes of offset, the length of the output lent."""
     if len(rest) != 10:
         return None
-    head = house.Head(rest[0], int.from_bytes(rest[1:9], "big"))
+    head = house.Head(rest[0], big_endian(rest[1:9]))
     return lent_line(rest[9], lambda out: written(out, lambda: house.pack_head(head)))
 
 
@@ -145,8 +229,8 @@ def contact_line(rest):
         return None
     x, y = signed(rest[4:9]), signed(rest[9:14])
     sides = [signed(rest[at : at + 3]) for at in range(14, 26, 3)]
-    orientation = int.from_bytes(rest[26:28], "big")
-    pressure = int.from_bytes(rest[28:30], "big")
+    orientation = big_endian(rest[26:28])
+    pressure = big_endian(rest[28:30])
     contact = house.Contact(*rest[:4], x, y, *sides, orientation, pressure)
     return lent_line(rest[30], lambda out: written(out, lambda: house.pack_contact(contact)))
 
@@ -163,7 +247,7 @@ def record_line(rest):
 
 def signed(data):
     """One byte of sign (1 for minus), then the magnitude."""
-    magnitude = int.from_bytes(data[1:], "big")
+    magnitude = big_endian(data[1:])
     return -magnitude if data[0] == 1 else magnitude
 
 

@@ -1,4 +1,4 @@
-"""The fourteen refusal numbers (rules: "Refusal numbers and their order")."""
+"""The refusal numbers: fourteen of the rules ("Refusal numbers and their order"), 15 to 17 of request #101."""
 
 NONE = 0
 SHORT = 1
@@ -15,6 +15,9 @@ BAD_OFFSET = 11
 TRAILING = 12
 NO_ROOM = 13
 BAD_RECORD = 14
+NOT_READY = 15
+SUSPENDED = 16
+ILLEGAL = 17
 
 NAMES = {
     NONE: "accepted",
@@ -32,6 +35,9 @@ NAMES = {
     TRAILING: "Trailing",
     NO_ROOM: "NoRoom",
     BAD_RECORD: "BadRecord",
+    NOT_READY: "NotReady",
+    SUSPENDED: "Suspended",
+    ILLEGAL: "Illegal",
 }
 
 

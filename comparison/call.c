@@ -89,7 +89,7 @@ static uint64_t user_microseconds(void)
 int main(int argc, char **argv)
 {
 	const unsigned long passes = argc == 2 ? strtoul(argv[1], NULL, 10) : 1;
-	const struct entries entries = entries_load();
+	const struct entries entries = entries_load(stdin);
 	const uint64_t sum = checksum(entries), before = user_microseconds();
 
 	for (unsigned long i = 0; i < passes; i++)

@@ -123,7 +123,7 @@ static size_t need(const struct pair *pair)
 
 int main(void)
 {
-	struct entries entries = entries_load();
+	struct entries entries = entries_load(stdin);
 	static struct pair pair;
 
 	for (size_t i = 0; i < OUTPUT_WORDS; i++)

@@ -1,9 +1,8 @@
 #include "entries.h"
 
-#include <stdio.h>
 #include <stdlib.h>
 
-struct entries entries_load(void)
+struct entries entries_load(FILE *from)
 {
 	struct entries entries = { NULL, 0, 0 };
 	size_t room = 1 << 20, got;
@@ -15,10 +14,10 @@ struct entries entries_load(void)
 			perror("realloc");
 			exit(2);
 		}
-		got = fread(entries.bytes + entries.n, 1, room - entries.n, stdin);
+		got = fread(entries.bytes + entries.n, 1, room - entries.n, from);
 		entries.n += got;
 	} while (entries.n == room);
-	if (ferror(stdin)) {
+	if (ferror(from)) {
 		perror("read");
 		exit(2);
 	}

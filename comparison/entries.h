@@ -5,6 +5,7 @@
 #include <stdbool.h>
 #include <stddef.h>
 #include <stdint.h>
+#include <stdio.h>
 
 struct entries {
 	uint8_t *bytes;
@@ -12,8 +13,8 @@ struct entries {
 	size_t at;              /* where the next entry begins */
 };
 
-/* Reads all of standard input. */
-struct entries entries_load(void);
+/* Reads all that there is. */
+struct entries entries_load(FILE *from);
 
 /* The next entry's message. False where there is no further complete one. */
 bool entries_next(struct entries *entries, const uint8_t **message, size_t *n);

@@ -1,7 +1,6 @@
 /* Writes messages and bench files (01, "The five integers", "Messages", "A bench file"). */
 #include "wire.h"
 
-#include <stdio.h>
 #include <stdlib.h>
 
 const struct wire_form wire_u2 = { 1, 0, 2 }, wire_s2 = { 1, 1, 2 };
@@ -39,6 +38,12 @@ void wire_little(struct wire *wire, unsigned bytes, uint64_t value)
 {
 	for (unsigned i = 0; i < bytes; i++)
 		wire_byte(wire, (uint8_t)(value >> 8 * i));
+}
+
+void wire_big(struct wire *wire, unsigned bytes, uint64_t value)
+{
+	while (bytes-- > 0)
+		wire_byte(wire, (uint8_t)(value >> 8 * bytes));
 }
 
 /* Whether the fault that is waiting falls on this integer. */
@@ -112,6 +117,13 @@ void wire_length(struct wire *wire)
 	wire->n = n;
 }
 
+void wire_greeting(struct wire *wire, uint32_t version)
+{
+	wire_header(wire, WIRE_SERVER_READY);
+	wire_little(wire, 4, version);
+	wire_length(wire);
+}
+
 void wire_ready(struct wire *wire, uint32_t flags, uint32_t version, unsigned most)
 {
 	wire_header(wire, WIRE_CLIENT_READY);
@@ -128,11 +140,11 @@ void wire_dismiss(struct wire *wire, uint8_t id)
 	wire_length(wire);
 }
 
-void wire_entry(const struct wire *wire)
+void wire_entry(const struct wire *wire, FILE *to)
 {
-	putchar((int)(wire->n >> 8));
-	putchar((int)(wire->n & 0xFF));
-	if (fwrite(wire->bytes, 1, wire->n, stdout) != wire->n) {
+	putc((int)(wire->n >> 8), to);
+	putc((int)(wire->n & 0xFF), to);
+	if (fwrite(wire->bytes, 1, wire->n, to) != wire->n) {
 		perror("write");
 		exit(2);
 	}

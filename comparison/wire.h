@@ -5,10 +5,18 @@
 #include <stdbool.h>
 #include <stddef.h>
 #include <stdint.h>
+#include <stdio.h>
 
 enum { WIRE_MOST = 65535, WIRE_HEADER_BYTES = 6 };
 
-enum wire_event { WIRE_CLIENT_READY = 2, WIRE_TOUCH = 3, WIRE_DISMISS = 6 };
+enum wire_event {
+	WIRE_SERVER_READY = 1,
+	WIRE_CLIENT_READY = 2,
+	WIRE_TOUCH = 3,
+	WIRE_SUSPEND = 4,
+	WIRE_RESUME = 5,
+	WIRE_DISMISS = 6
+};
 
 /* One of the five integers: bits for the count of further bytes, sign bits, and the most bytes. */
 struct wire_form {
@@ -47,6 +55,7 @@ void wire_start(struct wire *wire);
 void wire_byte(struct wire *wire, uint8_t byte);
 void wire_append(struct wire *wire, const struct wire *more);
 void wire_little(struct wire *wire, unsigned bytes, uint64_t value);
+void wire_big(struct wire *wire, unsigned bytes, uint64_t value);
 void wire_unsigned(struct wire *wire, const struct wire_form *form, uint64_t value);
 void wire_signed(struct wire *wire, const struct wire_form *form, int32_t value);
 void wire_contact(struct wire *wire, const struct wire_contact *contact);
@@ -55,10 +64,11 @@ void wire_contact(struct wire *wire, const struct wire_contact *contact);
 void wire_header(struct wire *wire, unsigned event);
 void wire_length(struct wire *wire);
 
+void wire_greeting(struct wire *wire, uint32_t version);
 void wire_ready(struct wire *wire, uint32_t flags, uint32_t version, unsigned most);
 void wire_dismiss(struct wire *wire, uint8_t id);
 
-/* Writes a message as an entry of a bench file to standard output. */
-void wire_entry(const struct wire *wire);
+/* Writes a message as an entry of a bench file. */
+void wire_entry(const struct wire *wire, FILE *to);
 
 #endif

@@ -128,10 +128,10 @@ static void write_all(const struct workload *workload, unsigned entries)
 
 	wire_start(&wire);
 	wire_ready(&wire, 0, 0x00010001, TEN);
-	wire_entry(&wire);
+	wire_entry(&wire, stdout);
 	for (unsigned i = 0; i < entries; i++) {
 		workload->make(&wire, i);
-		wire_entry(&wire);
+		wire_entry(&wire, stdout);
 	}
 }
 

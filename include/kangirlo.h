@@ -1,12 +1,13 @@
-/* The session host's end of the touch channel of [MS-RDPEI], for C11, for C++11, and for what links like C.
+/* The two ends of the touch channel of [MS-RDPEI], for C11, for C++11, and for what links like C. The session host's end is in
+ * libkangirlo.a, the panel's in libkangirlo_panel.a. Neither needs the other: a program that is both ends links both.
  *
  * Every call takes every input and ends. It reads and writes nothing but what it is lent, keeps nothing between calls, asks for no
  * memory, and is proved to do what its comment says. Bad input is refused by a number of the table below: a refusal has 0 in every
- * other field of the answer, and changes no receiver and not one byte of the output.
+ * other field of the answer, and changes no receiver, no panel and not one byte of the output.
  *
  * What is lent: a pointer and how many bytes stand there. The pointer is never null, also where there are 0 bytes, and what one
- * call is lent does not overlap. A receiver is plain memory without pointers: copy it, move it, keep it where you like; one call
- * at a time may use it. docs/HOST.md has a worked example and the stack that the calls take. */
+ * call is lent does not overlap. A receiver or a panel is plain memory without pointers: copy it, move it, keep it where you like;
+ * one call at a time may use it. docs/HOST.md has a worked example and the stack that the calls take. */
 #ifndef KANGIRLO_H
 #define KANGIRLO_H
 
@@ -33,7 +34,10 @@ enum kangirlo_refusal {
 	KANGIRLO_BAD_OFFSET = 11,   /* the first frame's offset is not 0 */
 	KANGIRLO_TRAILING = 12,     /* bytes after the last field */
 	KANGIRLO_NO_ROOM = 13,      /* output shorter than what the call writes */
-	KANGIRLO_BAD_RECORD = 14    /* a record that is not well formed */
+	KANGIRLO_BAD_RECORD = 14,   /* a record that is not well formed */
+	KANGIRLO_NOT_READY = 15,    /* client ready before server ready was taken, or again; touch or dismiss before client ready */
+	KANGIRLO_SUSPENDED = 16,    /* touch while suspended */
+	KANGIRLO_ILLEGAL = 17       /* a frame that would not conform; a dismissal of a contact that is not hovering */
 };
 
 /* The limits: a message, a record, and the most that one message makes a receiver write. */
@@ -46,7 +50,7 @@ enum kangirlo_kind { KANGIRLO_HEAD = 0, KANGIRLO_CONTACT = 1, KANGIRLO_CANCEL = 
 struct kangirlo_milliseconds { uint32_t value; };
 struct kangirlo_microseconds { uint64_t value; };
 
-/* What a client ready set. */
+/* What a client ready says. */
 struct kangirlo_settings {
 	uint32_t flags;
 	uint32_t version;
@@ -58,6 +62,19 @@ struct kangirlo_receiver {
 	uint8_t ready;          /* not 0: has accepted a client ready */
 	uint8_t begun;          /* not 0: has accepted a touch message with a frame since */
 	uint8_t ignoring;       /* not 0: ignores frames until one opens */
+	struct kangirlo_settings settings;
+	uint8_t states[256];    /* by contact id: 0 out of range, 1 hovering, 2 engaged */
+	int32_t xs[256];
+	int32_t ys[256];
+};
+
+/* One connection's panel. Keep it and lend it; the fields are for looking at. A fresh one is all zeros. Once its client ready has
+ * arrived, all but its first and third field are those of the receiver that has taken every message it wrote. */
+struct kangirlo_panel {
+	uint8_t greeted;        /* not 0: has taken a server ready */
+	uint8_t ready;          /* not 0: has written a client ready */
+	uint8_t suspended;      /* not 0: writes no touch until a resume is taken */
+	uint8_t begun;          /* not 0: has written a touch message with a frame */
 	struct kangirlo_settings settings;
 	uint8_t states[256];    /* by contact id: 0 out of range, 1 hovering, 2 engaged */
 	int32_t xs[256];
@@ -106,6 +123,8 @@ struct kangirlo_record {
 	struct kangirlo_microseconds offset;    /* of a head: the time since the frame before */
 };
 
+/* ---- The session host's end: libkangirlo.a. */
+
 /* A receiver that has accepted nothing. */
 struct kangirlo_receiver kangirlo_fresh(void);
 
@@ -131,11 +150,34 @@ struct kangirlo_written kangirlo_write_dismiss(uint8_t *output, size_t room, uin
 /* Reads the record at the front of some bytes. */
 struct kangirlo_record kangirlo_read_record(const uint8_t *records, size_t length);
 
+/* ---- The panel's end: libkangirlo_panel.a. What a panel writes, delivered in order to a fresh receiver with room, is never
+ * refused, and no frame of it is cancelled or ignored: the records that the receiver writes are those that the panel was given (with
+ * ready flag 2, their offsets as 0), and a dismissal's. */
+
+/* A panel that has taken and written nothing. */
+struct kangirlo_panel kangirlo_panel_fresh(void);
+
+/* Takes a message that arrived, and answers the refusal, 0 for none: 1, 2, 3, 4, 5, 8, 12, in this order. Server ready is taken
+ * first, and once; from then on suspend and resume, of which a second in a row changes nothing. */
+uint8_t kangirlo_panel_take(struct kangirlo_panel *panel, const uint8_t *message, size_t length);
+
+/* The panel's writers: each writes its whole message from the output's first byte, touches nothing past it, and keeps in the panel
+ * what the message makes of the host's receiver. A refusal, judged in the order given, changes neither the panel nor the output.
+ * - Client ready: 15, 8, 13. It may be written while suspended.
+ * - Touch, of heads and contacts like kangirlo_write_touch's: 10, 14, 15, 16, 17, 11, 7, 2, 13. Each frame is judged from what the
+ *   one before leaves, also past the 64th; 11 is of the first frame that the panel sends, unless its client ready had flag 2.
+ * - Dismiss: 15, 17, 13. It may be written while suspended. */
+struct kangirlo_written kangirlo_panel_write_ready(struct kangirlo_panel *panel, uint8_t *output, size_t room, uint32_t flags,
+                                                   uint32_t version, uint16_t most);
+struct kangirlo_written kangirlo_panel_write_touch(struct kangirlo_panel *panel, uint8_t *output, size_t room,
+                                                   struct kangirlo_milliseconds time, const uint8_t *records, size_t length);
+struct kangirlo_written kangirlo_panel_write_dismiss(struct kangirlo_panel *panel, uint8_t *output, size_t room, uint8_t id);
+
 #ifdef __cplusplus
 }
 #endif
 
-/* The layout that the library was compiled for: x86-64 Linux. */
+/* The layout that both archives were compiled for: x86-64 Linux. */
 #ifdef __cplusplus
 #define KANGIRLO_ASSERT(test) static_assert(test, #test)
 #define KANGIRLO_ALIGN(type) alignof(type)
@@ -147,6 +189,10 @@ KANGIRLO_ASSERT(sizeof(struct kangirlo_settings) == 12 && KANGIRLO_ALIGN(struct 
 KANGIRLO_ASSERT(sizeof(struct kangirlo_receiver) == 2320 && KANGIRLO_ALIGN(struct kangirlo_receiver) == 4);
 KANGIRLO_ASSERT(offsetof(struct kangirlo_receiver, settings) == 4 && offsetof(struct kangirlo_receiver, states) == 16);
 KANGIRLO_ASSERT(offsetof(struct kangirlo_receiver, xs) == 272 && offsetof(struct kangirlo_receiver, ys) == 1296);
+KANGIRLO_ASSERT(sizeof(struct kangirlo_panel) == 2320 && KANGIRLO_ALIGN(struct kangirlo_panel) == 4);
+KANGIRLO_ASSERT(offsetof(struct kangirlo_panel, begun) == 3 && offsetof(struct kangirlo_panel, settings) == 4);
+KANGIRLO_ASSERT(offsetof(struct kangirlo_panel, states) == 16);
+KANGIRLO_ASSERT(offsetof(struct kangirlo_panel, xs) == 272 && offsetof(struct kangirlo_panel, ys) == 1296);
 KANGIRLO_ASSERT(sizeof(struct kangirlo_answer) == 16 && KANGIRLO_ALIGN(struct kangirlo_answer) == 8);
 KANGIRLO_ASSERT(sizeof(struct kangirlo_plain_answer) == 16 && KANGIRLO_ALIGN(struct kangirlo_plain_answer) == 8);
 KANGIRLO_ASSERT(sizeof(struct kangirlo_written) == 16 && KANGIRLO_ALIGN(struct kangirlo_written) == 8);

@@ -1,21 +1,9 @@
 /* Every call of the header once more from C: that arguments, answers and fields arrive where the header says they are. What the calls do is
  * proved; this is for the boundary. Ends with 'N passed, M failed'. */
+#include "expect.h"
 #include "kangirlo.h"
 
-#include <stdio.h>
 #include <string.h>
-
-static int passed, failed;
-
-static void expect(int holds, const char *what)
-{
-	passed += holds;
-	failed += !holds;
-	if (!holds)
-		printf("fails: %s\n", what);
-}
-
-#define EXPECT(test) expect(test, #test)
 
 /* The four messages of document 01's example. */
 static const uint8_t ready[] = {2, 0, 16, 0, 0, 0, 0, 0, 0, 0, 1, 0, 1, 0, 10, 0};
@@ -110,6 +98,5 @@ int main(void)
 	test_receiver();
 	test_plain();
 	test_writers();
-	printf("%d passed, %d failed\n", passed, failed);
-	return failed != 0;
+	return expect_end();
 }

@@ -1,6 +1,10 @@
 //! A safe face of include/kangirlo.h: what is lent is a slice, a refusal is an error, and a record is an enum.
 //! Slices are never null and do not overlap where one of them is `&mut`, which is all that the header asks.
+//! It has both ends, and links both archives: libkangirlo_panel.a for [`Panel`], libkangirlo.a for all else.
 
+mod panel;
+
+pub use panel::Panel;
 use std::mem::size_of;
 
 pub const MESSAGE_MOST: usize = 4096;
@@ -35,6 +39,9 @@ impl Refusal {
     pub const TRAILING: Self = Self(12);
     pub const NO_ROOM: Self = Self(13);
     pub const BAD_RECORD: Self = Self(14);
+    pub const NOT_READY: Self = Self(15);
+    pub const SUSPENDED: Self = Self(16);
+    pub const ILLEGAL: Self = Self(17);
 
     pub fn number(self) -> u8 {
         self.0
@@ -48,7 +55,7 @@ fn accepted(refusal: u8) -> Result<(), Refusal> {
     }
 }
 
-/// What a client ready set.
+/// What a client ready says.
 #[repr(C)]
 #[derive(Clone, Copy, Debug, PartialEq, Eq)]
 pub struct Settings {
@@ -77,6 +84,14 @@ pub enum State {
     Out,
     Hovering,
     Engaged,
+}
+
+fn state_of(number: u8) -> State {
+    match number {
+        0 => State::Out,
+        1 => State::Hovering,
+        _ => State::Engaged,
+    }
 }
 
 /// What became of the frames of a message that was taken.
@@ -113,12 +128,7 @@ impl Receiver {
     /// A contact's state and stored position.
     pub fn contact(&self, id: u8) -> (State, i32, i32) {
         let at = usize::from(id);
-        let state = match self.states[at] {
-            0 => State::Out,
-            1 => State::Hovering,
-            _ => State::Engaged,
-        };
-        (state, self.xs[at], self.ys[at])
+        (state_of(self.states[at]), self.xs[at], self.ys[at])
     }
 
     /// Judges a message and carries it out.
@@ -290,7 +300,7 @@ pub fn write_dismiss(output: &mut [u8], id: u8) -> Result<usize, Refusal> {
 
 /// The header, declared again.
 mod c {
-    use super::{Microseconds, Milliseconds, Receiver, size_of};
+    use super::{Microseconds, Milliseconds, Panel, Receiver, size_of};
 
     #[repr(C)]
     pub struct Answer {
@@ -371,5 +381,29 @@ mod c {
         pub fn kangirlo_write_resume(output: *mut u8, room: usize) -> Written;
         pub fn kangirlo_write_dismiss(output: *mut u8, room: usize, id: u8) -> Written;
         pub fn kangirlo_read_record(records: *const u8, length: usize) -> Record;
+        pub fn kangirlo_panel_fresh() -> Panel;
+        pub fn kangirlo_panel_take(panel: *mut Panel, message: *const u8, length: usize) -> u8;
+        pub fn kangirlo_panel_write_ready(
+            panel: *mut Panel,
+            output: *mut u8,
+            room: usize,
+            flags: u32,
+            version: u32,
+            most: u16,
+        ) -> Written;
+        pub fn kangirlo_panel_write_touch(
+            panel: *mut Panel,
+            output: *mut u8,
+            room: usize,
+            time: Milliseconds,
+            records: *const u8,
+            length: usize,
+        ) -> Written;
+        pub fn kangirlo_panel_write_dismiss(
+            panel: *mut Panel,
+            output: *mut u8,
+            room: usize,
+            id: u8,
+        ) -> Written;
     }
 }

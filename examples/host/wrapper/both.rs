@@ -1,0 +1,78 @@
+//! A panel and a receiver in one program: document 01's finger goes down and up, and then moves without having come down, which the
+//! panel does not send. Prints what becomes of each.
+
+use kangirlo::{
+    MESSAGE_MOST, Milliseconds, OUTPUT_MOST, Panel, Receiver, Refusal, Settings, plain,
+    write_server_ready,
+};
+
+const VERSION: u32 = 0x0001_0001;
+const DOWN: u8 = 0x19;
+const UP: u8 = 0x04;
+const MOVE: u8 = 0x1A;
+
+struct Ends {
+    panel: Panel,
+    receiver: Receiver,
+    message: Vec<u8>,
+    output: Vec<u8>,
+}
+
+impl Ends {
+    /// Both, past their ready messages.
+    fn meet() -> Result<Self, Refusal> {
+        let mut ends = Ends {
+            panel: Panel::new(),
+            receiver: Receiver::new(),
+            message: vec![0; MESSAGE_MOST],
+            output: vec![0; OUTPUT_MOST],
+        };
+        let length = write_server_ready(&mut ends.message, VERSION)?;
+        ends.panel.take(&ends.message[..length])?;
+        let settings = Settings {
+            flags: 0,
+            version: VERSION,
+            most: 10,
+        };
+        let length = ends.panel.write_ready(&mut ends.message, settings)?;
+        ends.deliver(length)?;
+        Ok(ends)
+    }
+
+    fn send(&mut self, time: Milliseconds, records: &[u8]) -> Result<(), Refusal> {
+        let length = self.panel.write_touch(&mut self.message, time, records)?;
+        self.deliver(length)
+    }
+
+    fn deliver(&mut self, length: usize) -> Result<(), Refusal> {
+        let taken = self
+            .receiver
+            .receive(&self.message[..length], &mut self.output)?;
+        assert_eq!((taken.ignored, taken.cancelled), (0, 0));
+        println!(
+            "{} injected, {} bytes of records",
+            taken.injected,
+            taken.records.bytes().len()
+        );
+        Ok(())
+    }
+}
+
+/// A touch message of contact 1 at 100, 50, to have its records from.
+fn message(flags: u8) -> [u8; 17] {
+    [
+        3, 0, 17, 0, 0, 0, 0, 1, 1, 0, 1, 0, 0x40, 0x64, 0x40, 0x32, flags,
+    ]
+}
+
+fn main() -> Result<(), Refusal> {
+    let mut ends = Ends::meet()?;
+    let mut output = vec![0; OUTPUT_MOST];
+    for flags in [DOWN, UP, MOVE] {
+        let (time, records) = plain(&message(flags), &mut output)?;
+        if let Err(refusal) = ends.send(time, records.bytes()) {
+            println!("not sent: {}", refusal.number());
+        }
+    }
+    Ok(())
+}

@@ -1,0 +1,101 @@
+//! The panel's end. What a panel writes, a receiver takes: nothing of it is refused, ignored or cancelled.
+
+use super::{Milliseconds, Refusal, Settings, State, accepted, c, state_of, written};
+use std::mem::size_of;
+
+/// One connection's panel.
+#[repr(C)]
+#[derive(Clone)]
+pub struct Panel {
+    greeted: u8,
+    ready: u8,
+    suspended: u8,
+    begun: u8,
+    settings: Settings,
+    states: [u8; 256],
+    xs: [i32; 256],
+    ys: [i32; 256],
+}
+
+const _: () = assert!(size_of::<Panel>() == 2320);
+
+impl Default for Panel {
+    fn default() -> Self {
+        Self::new()
+    }
+}
+
+impl Panel {
+    pub fn new() -> Self {
+        unsafe { c::kangirlo_panel_fresh() }
+    }
+
+    /// Whether a server ready was taken, so that client ready may be written.
+    pub fn is_greeted(&self) -> bool {
+        self.greeted != 0
+    }
+
+    /// What its client ready said, once it was written.
+    pub fn settings(&self) -> Option<Settings> {
+        (self.ready != 0).then_some(self.settings)
+    }
+
+    /// Whether no touch is written until a resume is taken.
+    pub fn is_suspended(&self) -> bool {
+        self.suspended != 0
+    }
+
+    /// Whether a frame was sent, so that the next may have an offset.
+    pub fn has_begun(&self) -> bool {
+        self.begun != 0
+    }
+
+    /// A contact's state and stored position.
+    pub fn contact(&self, id: u8) -> (State, i32, i32) {
+        let at = usize::from(id);
+        (state_of(self.states[at]), self.xs[at], self.ys[at])
+    }
+
+    /// Takes a message that arrived: server ready at first, then suspend and resume.
+    pub fn take(&mut self, message: &[u8]) -> Result<(), Refusal> {
+        accepted(unsafe { c::kangirlo_panel_take(self, message.as_ptr(), message.len()) })
+    }
+
+    pub fn write_ready(&mut self, output: &mut [u8], set: Settings) -> Result<usize, Refusal> {
+        written(unsafe {
+            c::kangirlo_panel_write_ready(
+                self,
+                output.as_mut_ptr(),
+                output.len(),
+                set.flags,
+                set.version,
+                set.most,
+            )
+        })
+    }
+
+    /// Writes a touch message of the records (heads and contacts) of its frames.
+    pub fn write_touch(
+        &mut self,
+        output: &mut [u8],
+        time: Milliseconds,
+        records: &[u8],
+    ) -> Result<usize, Refusal> {
+        written(unsafe {
+            c::kangirlo_panel_write_touch(
+                self,
+                output.as_mut_ptr(),
+                output.len(),
+                time,
+                records.as_ptr(),
+                records.len(),
+            )
+        })
+    }
+
+    pub fn write_dismiss(&mut self, output: &mut [u8], id: u8) -> Result<usize, Refusal> {
+        written(unsafe {
+            c::kangirlo_panel_write_dismiss(self, output.as_mut_ptr(), output.len(), id)
+        })
+    }
+}

@@ -1,0 +1,22 @@
+/* The records of some frames, one after the other, as a panel's touch writer takes them. */
+#ifndef BATCH_H
+#define BATCH_H
+
+#include "kangirlo.h"
+
+enum { BATCH_MOST = 256 * KANGIRLO_RECORD_BYTES };
+
+/* What a contact does: six of the eight contactFlags. */
+enum batch_flags { LEAVE = 0x02, LIFT = 0x04, HOVER = 0x0A, LIFT_TO_HOVER = 0x0C, DOWN = 0x19, MOVE = 0x1A };
+
+struct batch {
+	size_t length;
+	uint8_t bytes[BATCH_MOST];
+};
+
+/* Each appends a record. They end the program where a value does not fit in its bits, or the record not in the batch. */
+void batch_record(struct batch *batch, struct kangirlo_record record);
+void batch_head(struct batch *batch, uint16_t count, uint64_t offset);
+void batch_contact(struct batch *batch, enum batch_flags flags, uint8_t id, int32_t x, int32_t y);
+
+#endif

@@ -1,0 +1,272 @@
+/* Every call of a panel from C, with each refusal that it can give; where several could be given, with the first of them. After a refusal
+ * the panel and the output are looked at: nothing may have changed. What the calls do is proved; this is for the boundary. Ends with
+ * 'N passed, M failed'. */
+#include "batch.h"
+#include "expect.h"
+#include "sender.h"
+
+#include <string.h>
+
+enum { VERSION = 0x00010001, NO_TIMES = 2, FRAMES_MOST = 64, CONTACTS_MOST = 63, UNTOUCHED = 0xA5 };
+enum { TIME_MOST = 0x3FFFFFFF, ALL_CONTACTS = 256 };
+
+static const uint8_t server_ready[] = {1, 0, 10, 0, 0, 0, 1, 0, 1, 0};
+static const uint8_t suspend[] = {4, 0, 6, 0, 0, 0}, resume[] = {5, 0, 6, 0, 0, 0};
+
+static struct sender sender, kept;
+
+/* A fresh panel and an output that nothing has written to. */
+static void begin(void)
+{
+	sender.panel = kangirlo_panel_fresh();
+	memset(sender.message, UNTOUCHED, sizeof sender.message);
+	kept = sender;
+}
+
+static int takes(const uint8_t *message, size_t length)
+{
+	int taken = kangirlo_panel_take(&sender.panel, message, length) == KANGIRLO_TAKEN;
+
+	kept = sender;
+	return taken;
+}
+
+static int rejects(const uint8_t *message, size_t length, enum kangirlo_refusal refusal)
+{
+	return kangirlo_panel_take(&sender.panel, message, length) == refusal && sender_same(&sender, &kept);
+}
+
+/* Written: these bytes, and nothing past them touched. */
+static int wrote(struct kangirlo_written written, const uint8_t *bytes, size_t count)
+{
+	int same = written.refusal == KANGIRLO_TAKEN && written.bytes == count && memcmp(sender.message, bytes, count) == 0
+	           && memcmp(sender.message + count, kept.message + count, sizeof kept.message - count) == 0;
+
+	kept = sender;
+	return same;
+}
+
+static int refused(struct kangirlo_written written, enum kangirlo_refusal refusal)
+{
+	return written.refusal == refusal && written.bytes == 0 && sender_same(&sender, &kept);
+}
+
+static struct kangirlo_written ready_in(size_t room, uint32_t flags, uint32_t version, uint16_t most)
+{
+	return kangirlo_panel_write_ready(&sender.panel, sender.message, room, flags, version, most);
+}
+
+static struct kangirlo_written ready(uint32_t flags, uint32_t version, uint16_t most)
+{
+	return ready_in(sizeof sender.message, flags, version, most);
+}
+
+static struct kangirlo_written dismiss_in(size_t room, uint8_t id)
+{
+	return kangirlo_panel_write_dismiss(&sender.panel, sender.message, room, id);
+}
+
+static struct kangirlo_written dismiss(uint8_t id)
+{
+	return dismiss_in(sizeof sender.message, id);
+}
+
+/* A panel that has taken server ready and written client ready. */
+static void begin_ready(uint32_t flags)
+{
+	begin();
+	EXPECT(takes(server_ready, sizeof server_ready));
+	EXPECT(ready(flags, VERSION, ALL_CONTACTS).refusal == KANGIRLO_TAKEN);
+	kept = sender;
+}
+
+static void test_fresh(void)
+{
+	static const struct sender zeros;
+
+	sender.panel = kangirlo_panel_fresh();
+	memset(sender.message, 0, sizeof sender.message);
+	EXPECT(sender_same(&sender, &zeros));
+}
+
+static void test_take_at_first(void)
+{
+	static const uint8_t other_length[] = {1, 0, 11, 0, 0, 0, 1, 0, 1, 0}, other_version[] = {1, 0, 10, 0, 0, 0, 2, 0, 1, 0};
+	static const uint8_t cut[] = {1, 0, 9, 0, 0, 0, 1, 0, 1}, longer[] = {1, 0, 11, 0, 0, 0, 1, 0, 1, 0, 0};
+	static const uint8_t too_long[KANGIRLO_MESSAGE_MOST + 1];
+
+	begin();
+	EXPECT(rejects(server_ready, 0, KANGIRLO_SHORT));
+	EXPECT(rejects(server_ready, 5, KANGIRLO_SHORT));
+	EXPECT(rejects(too_long, sizeof too_long, KANGIRLO_TOO_LONG));
+	EXPECT(rejects(suspend, sizeof suspend, KANGIRLO_UNEXPECTED));
+	EXPECT(rejects(resume, sizeof resume, KANGIRLO_UNEXPECTED));
+	EXPECT(rejects(other_length, sizeof other_length, KANGIRLO_BAD_LENGTH));
+	EXPECT(rejects(cut, sizeof cut, KANGIRLO_TRUNCATED));
+	EXPECT(rejects(other_version, sizeof other_version, KANGIRLO_BAD_FIELD));
+	EXPECT(rejects(longer, sizeof longer, KANGIRLO_TRAILING));
+	EXPECT(takes(server_ready, sizeof server_ready));
+	EXPECT(sender.panel.greeted == 1 && sender.panel.ready == 0 && sender.panel.suspended == 0 && sender.panel.begun == 0);
+}
+
+static void test_take_afterwards(void)
+{
+	static const uint8_t other_length[] = {4, 0, 7, 0, 0, 0}, longer[] = {5, 0, 7, 0, 0, 0, 0};
+
+	EXPECT(rejects(server_ready, sizeof server_ready, KANGIRLO_UNEXPECTED));
+	EXPECT(rejects(other_length, sizeof other_length, KANGIRLO_BAD_LENGTH));
+	EXPECT(rejects(longer, sizeof longer, KANGIRLO_TRAILING));
+	EXPECT(takes(suspend, sizeof suspend) && sender.panel.suspended == 1 && sender.panel.greeted == 1);
+	EXPECT(rejects(suspend, sizeof suspend, KANGIRLO_TAKEN));
+	EXPECT(takes(resume, sizeof resume) && sender.panel.suspended == 0 && sender.panel.greeted == 1);
+	EXPECT(rejects(resume, sizeof resume, KANGIRLO_TAKEN));
+}
+
+static void test_ready(void)
+{
+	static const uint8_t client_ready[] = {2, 0, 16, 0, 0, 0, 3, 0, 0, 0, 0, 0, 1, 0, 0x34, 0x12};
+
+	begin();
+	EXPECT(refused(ready_in(0, 4, 0, 10), KANGIRLO_NOT_READY));
+	EXPECT(takes(server_ready, sizeof server_ready));
+	EXPECT(takes(suspend, sizeof suspend));
+	EXPECT(refused(ready_in(0, 4, VERSION, 10), KANGIRLO_BAD_FIELD));
+	EXPECT(refused(ready_in(0, 0, VERSION + 1, 10), KANGIRLO_BAD_FIELD));
+	EXPECT(refused(ready_in(15, 0, VERSION, 10), KANGIRLO_NO_ROOM));
+	EXPECT(wrote(ready_in(16, 3, 0x00010000, 0x1234), client_ready, sizeof client_ready));
+	EXPECT(sender.panel.ready == 1 && sender.panel.suspended == 1 && sender.panel.begun == 0);
+	EXPECT(sender.panel.settings.flags == 3 && sender.panel.settings.version == 0x00010000 && sender.panel.settings.most == 0x1234);
+	EXPECT(refused(ready(0, VERSION, 10), KANGIRLO_NOT_READY));
+}
+
+/* So many empty frames, of which the last may have a contact that moves without having come. */
+static struct batch frames(unsigned count, uint64_t first_offset, bool stray_at_end)
+{
+	struct batch batch = {0};
+
+	for (unsigned i = 0; i < count; i++)
+		batch_head(&batch, stray_at_end && i == count - 1, i == 0 ? first_offset : 0);
+	if (stray_at_end)
+		batch_contact(&batch, MOVE, 1, 0, 0);
+	return batch;
+}
+
+/* Hovering contacts with every field, 24 bytes each in a message: three frames of 63 are over 4,096 bytes. */
+static struct batch crowd(void)
+{
+	struct batch batch = {0};
+	struct kangirlo_record contact = {.kind = KANGIRLO_CONTACT, .flags = HOVER, .present = 7, .x = 0x1FFFFFFF, .y = -0x1FFFFFFF,
+	                                  .left = -0x3FFF, .top = 0x3FFF, .right = 0x3FFF, .bottom = -0x3FFF, .orientation = 359,
+	                                  .pressure = 65000};
+
+	for (unsigned i = 0; i < 3 * CONTACTS_MOST; i++) {
+		if (i % CONTACTS_MOST == 0)
+			batch_head(&batch, CONTACTS_MOST, 0);
+		contact.id = (uint8_t)i;
+		batch_record(&batch, contact);
+	}
+	return batch;
+}
+
+/* Each refusal, with as many of those that come after it as can be had. */
+static void test_touch_refusals(void)
+{
+	struct batch stray = frames(FRAMES_MOST + 1, 5, true), late = frames(FRAMES_MOST + 1, 5, false);
+	struct batch many = frames(FRAMES_MOST + 1, 0, false), broken = stray, wide = crowd(), one = frames(1, 0, false);
+	struct kangirlo_milliseconds time = {0};
+
+	broken.length--;
+	begin();
+	EXPECT(takes(server_ready, sizeof server_ready));
+	EXPECT(takes(suspend, sizeof suspend));
+	EXPECT(refused(sender_touch(&sender, TIME_MOST + 1, &broken), KANGIRLO_BAD_RANGE));
+	EXPECT(refused(sender_touch(&sender, TIME_MOST, &broken), KANGIRLO_BAD_RECORD));
+	EXPECT(refused(sender_touch(&sender, TIME_MOST, &stray), KANGIRLO_NOT_READY));
+	EXPECT(ready(0, VERSION, ALL_CONTACTS).refusal == KANGIRLO_TAKEN);
+	kept = sender;
+	EXPECT(refused(sender_touch(&sender, TIME_MOST, &stray), KANGIRLO_SUSPENDED));
+	EXPECT(takes(resume, sizeof resume));
+	EXPECT(refused(sender_touch(&sender, TIME_MOST, &stray), KANGIRLO_ILLEGAL));
+	EXPECT(refused(sender_touch(&sender, TIME_MOST, &late), KANGIRLO_BAD_OFFSET));
+	EXPECT(refused(sender_touch(&sender, TIME_MOST, &many), KANGIRLO_BAD_COUNT));
+	EXPECT(refused(kangirlo_panel_write_touch(&sender.panel, sender.message, 0, time, wide.bytes, wide.length), KANGIRLO_TOO_LONG));
+	EXPECT(refused(kangirlo_panel_write_touch(&sender.panel, sender.message, 9, time, one.bytes, one.length), KANGIRLO_NO_ROOM));
+}
+
+/* A record that is not well formed: flags that are not listed, and a dismissal. */
+static void test_touch_records(void)
+{
+	struct batch batch = {0};
+
+	begin_ready(0);
+	batch_head(&batch, 1, 0);
+	batch_contact(&batch, LIFT | HOVER, 1, 0, 0);
+	EXPECT(refused(sender_touch(&sender, 0, &batch), KANGIRLO_BAD_RECORD));
+	batch.length = KANGIRLO_RECORD_BYTES;
+	batch_record(&batch, (struct kangirlo_record){.kind = KANGIRLO_DISMISSAL, .flags = LEAVE, .id = 1});
+	EXPECT(refused(sender_touch(&sender, 0, &batch), KANGIRLO_BAD_RECORD));
+}
+
+static void test_touch(void)
+{
+	static const uint8_t down[] = {3, 0, 17, 0, 0, 0, 0, 1, 1, 0, 1, 0, 0x40, 0x64, 0x40, 0x32, 0x19};
+	static const uint8_t none[] = {3, 0, 8, 0, 0, 0, 9, 0};
+	struct batch batch = {0};
+	struct kangirlo_milliseconds time = {0};
+
+	begin_ready(0);
+	EXPECT(wrote(sender_touch(&sender, 9, &batch), none, sizeof none) && sender.panel.begun == 0);
+	batch_head(&batch, 1, 0);
+	batch_contact(&batch, DOWN, 1, 100, 50);
+	EXPECT(refused(kangirlo_panel_write_touch(&sender.panel, sender.message, 16, time, batch.bytes, batch.length), KANGIRLO_NO_ROOM));
+	EXPECT(wrote(kangirlo_panel_write_touch(&sender.panel, sender.message, 17, time, batch.bytes, batch.length), down, sizeof down));
+	EXPECT(sender.panel.begun == 1 && sender.panel.states[1] == 2 && sender.panel.xs[1] == 100 && sender.panel.ys[1] == 50);
+	EXPECT(refused(sender_touch(&sender, 0, &batch), KANGIRLO_ILLEGAL));
+}
+
+/* 11 is of the first frame, and of none with ready flag 2. */
+static void test_first_offset(void)
+{
+	struct batch late = frames(1, 5, false), first = frames(1, 0, false);
+
+	begin_ready(0);
+	EXPECT(refused(sender_touch(&sender, 0, &late), KANGIRLO_BAD_OFFSET));
+	EXPECT(sender_touch(&sender, 0, &first).refusal == KANGIRLO_TAKEN && sender_touch(&sender, 0, &late).refusal == KANGIRLO_TAKEN);
+	begin_ready(NO_TIMES);
+	EXPECT(sender_touch(&sender, 0, &late).refusal == KANGIRLO_TAKEN && sender.panel.begun == 1);
+}
+
+static void test_dismiss(void)
+{
+	static const uint8_t message[] = {6, 0, 7, 0, 0, 0, 200};
+	struct batch batch = {0};
+
+	begin();
+	EXPECT(refused(dismiss_in(0, 200), KANGIRLO_NOT_READY));
+	begin_ready(0);
+	batch_head(&batch, 2, 0);
+	batch_contact(&batch, DOWN, 1, 100, 50);
+	batch_contact(&batch, HOVER, 200, -7, 8);
+	EXPECT(sender_touch(&sender, 0, &batch).refusal == KANGIRLO_TAKEN && sender.panel.xs[200] == -7);
+	EXPECT(takes(suspend, sizeof suspend));
+	EXPECT(refused(dismiss_in(0, 1), KANGIRLO_ILLEGAL));
+	EXPECT(refused(dismiss(2), KANGIRLO_ILLEGAL));
+	EXPECT(refused(dismiss_in(6, 200), KANGIRLO_NO_ROOM));
+	EXPECT(wrote(dismiss_in(7, 200), message, sizeof message));
+	EXPECT(sender.panel.states[200] == 0 && sender.panel.xs[200] == 0 && sender.panel.ys[200] == 0 && sender.panel.states[1] == 2);
+	EXPECT(refused(dismiss(200), KANGIRLO_ILLEGAL));
+}
+
+int main(void)
+{
+	test_fresh();
+	test_take_at_first();
+	test_take_afterwards();
+	test_ready();
+	test_touch_refusals();
+	test_touch_records();
+	test_touch();
+	test_first_offset();
+	test_dismiss();
+	return expect_end();
+}

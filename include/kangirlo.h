@@ -7,7 +7,7 @@
  *
  * What is lent: a pointer and how many bytes stand there. The pointer is never null, also where there are 0 bytes, and what one
  * call is lent does not overlap. A receiver or a panel is plain memory without pointers: copy it, move it, keep it where you like;
- * one call at a time may use it. docs/HOST.md has a worked example and the stack that the calls take. */
+ * one call at a time may use it. docs/HOST.md and docs/PANEL.md have worked examples and the stack that the calls take. */
 #ifndef KANGIRLO_H
 #define KANGIRLO_H
 

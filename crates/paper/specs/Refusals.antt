@@ -72,3 +72,7 @@ suspended = 16
 -- a frame that would not conform, or a dismissal of a contact not hovering
 abbrev pub illegal : ℕ
 illegal = 17
+
+-- a batch whose last entry is incomplete, or with fewer places for answers than entries
+abbrev pub badBatch : ℕ
+badBatch = 18

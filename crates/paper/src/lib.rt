@@ -34,6 +34,8 @@ pub const NOT_READY: u8 = 15;
 pub const SUSPENDED: u8 = 16;
 // A frame that would not conform, or a dismissal of a contact not hovering.
 pub const ILLEGAL: u8 = 17;
+// Document 02, #102. A batch whose last entry is incomplete, or with fewer places for answers than entries.
+pub const BAD_BATCH: u8 = 18;
 
 // encodeTime (000, 2.2.3.3): milliseconds.
 #[repr(C)]

@@ -21,7 +21,7 @@ use Rattle.house.specs.Fields.{recordBytes}
 use Rattle.machine.specs.Table.{contacts}
 use Rattle.receiver.specs.Limits.{mostOutput}
 use Rattle.receiver.specs.Receive.{Receives}
-use Rattle.receiver.specs.History.{Sent, next, answerTo, wrote, after, written}
+use Rattle.receiver.specs.History.{Sent, messagesOf, next, answerTo, wrote, after, written}
 use Rattle.receiver.specs.declared.Receiver.{Receiver}
 use Rattle.receiver.specs.declared.Answer.{Answer}
 use Rattle.receiver.proofs.Histories.{a-step-of-the-contract-is-a-step-of-a-history}
@@ -52,7 +52,7 @@ next-room least file room n e = go (leb least room) refl e
 next-inside : (least : ℕ) (file : List ℕ) (room n : ℕ) → nextIn least file room ≡ Front.Entry n → 2 + n ≤ length file
 next-inside least file room n e = front-inside file n (next-front least file room n e)
 
-message-long : (file : List ℕ) (n : ℕ) → 2 + n ≤ length file → length (take n (drop 2 file)) ≡ n
+pub message-long : (file : List ℕ) (n : ℕ) → 2 + n ≤ length file → length (take n (drop 2 file)) ≡ n
 message-long file n h = length-take-le n (drop 2 file) (omega (arith, length-drop 2 file))
 
 -- ---- the entries that are fed
@@ -71,11 +71,11 @@ fed-few least (suc k) r file room =
     omega (arith, fed-few least k (next r x) (drop (n + 2) file) (room - length (wrote r x)))
 
 -- they lie within the file
-pub fed-inside : (least k : ℕ) (r : Receiver) (file : List ℕ) (room : ℕ) → bytesOf (fedFrom least k r file room) ≤ length file
+pub fed-inside : (least k : ℕ) (r : Receiver) (file : List ℕ) (room : ℕ) → bytesOf (messagesOf (fedFrom least k r file room)) ≤ length file
 unfolding fedFrom bytesOf
 fed-inside least zero r file room = omega arith
 fed-inside least (suc k) r file room =
-    by-front (λ h. bytesOf h ≤ length file) (nextIn least file room) _ (omega arith) λ n e.
+    by-front (λ h. bytesOf (messagesOf h) ≤ length file) (nextIn least file room) _ (omega arith) λ n e.
     let x = sentFrom n file room in
     let i = next-inside least file room n e in
     omega (arith, fed-inside least k (next r x) (drop (n + 2) file) (room - length (wrote r x)), message-long file n i, length-drop (n + 2) file)
@@ -94,12 +94,12 @@ unfolding answersTo
 answers-long r [] = refl
 answers-long r (x ∷ h) = omega (arith, answers-long (next r x) h)
 
-fed-none : (least k : ℕ) (r : Receiver) (file : List ℕ) (room : ℕ) → nextIn least file room ≡ Front.Part → fedFrom least k r file room ≡ []
+pub fed-none : (least k : ℕ) (r : Receiver) (file : List ℕ) (room : ℕ) → nextIn least file room ≡ Front.Part → fedFrom least k r file room ≡ []
 unfolding fedFrom
 fed-none least zero r file room e = refl
 fed-none least (suc k) r file room e = rw e
 
-fed-more : (least k : ℕ) (r : Receiver) (file : List ℕ) (room n : ℕ) → nextIn least file room ≡ Front.Entry n
+pub fed-more : (least k : ℕ) (r : Receiver) (file : List ℕ) (room n : ℕ) → nextIn least file room ≡ Front.Entry n
     → let x : Sent = sentFrom n file room in fedFrom least (suc k) r file room ≡ x ∷ fedFrom least k (next r x) (drop (n + 2) file) (room - length (wrote r x))
 unfolding fedFrom
 fed-more least k r file room n e = rw e
@@ -110,7 +110,7 @@ fed-more least k r file room n e = rw e
 pub record Underway (r : Receiver) (h : List Sent) (a₀ o₀ : List ℕ) (f : Fed) (a o : List ℕ) (more : List Sent) : Type 0 where
   pub receiver : after (f .receiver) more ≡ after r h
   pub entries : f .entries + length more ≡ length h
-  pub used : f .used + bytesOf more ≡ bytesOf h
+  pub used : f .used + bytesOf (messagesOf more) ≡ bytesOf (messagesOf h)
   pub records : recordBytes * f .records + length (written (f .receiver) more) ≡ length (written r h)
   pub answers : laidAt a (answerNumbers * f .entries) (answersTo (f .receiver) more) ≡ laid a₀ (answersTo r h)
   pub output : laidAt o (recordBytes * f .records) (written (f .receiver) more) ≡ laid o₀ (written r h)

@@ -9,7 +9,7 @@ use Rattle.receiver.specs.History.{Sent}
 use Rattle.intake.specs.Feeding.{Feeds, TakesEntries}
 use Rattle.intake.specs.declared.Fed.{Fed}
 
-feeds-unique : (r : Receiver) (h : List Sent) (f g : Fed) (a₀ a b o₀ o p : List ℕ) → Feeds r h f a₀ a o₀ o → Feeds r h g a₀ b o₀ p → (f ≡ g) × (a ≡ b) × (o ≡ p)
+pub feeds-unique : (r : Receiver) (h : List Sent) (f g : Fed) (a₀ a b o₀ o p : List ℕ) → Feeds r h f a₀ a o₀ o → Feeds r h g a₀ b o₀ p → (f ≡ g) × (a ≡ b) × (o ≡ p)
 feeds-unique r h f g a₀ a b o₀ o p x y =
     let n : f .records ≡ g .records = omega (arith, x .records, y .records) in (
       λ i. record {

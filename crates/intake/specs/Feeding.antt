@@ -10,10 +10,13 @@ use Rattle.entries.specs.Entries.{frontOf}
 use Rattle.entries.specs.declared.Front.{Front}
 use Rattle.entries.specs.declared.Front.the-variants as Front
 use Rattle.house.specs.Fields.{recordBytes}
-use Rattle.receiver.specs.History.{Sent, next, answerTo, wrote, after, written}
+use Rattle.machine.specs.Table.{Table}
+use Rattle.receiver.specs.Events.{ofParts}
+use Rattle.receiver.specs.History.{Sent, messagesOf, next, answerTo, wrote, after, written}
 use Rattle.receiver.specs.declared.Receiver.{Receiver}
 use Rattle.receiver.specs.declared.Answer.{Answer}
 use Rattle.intake.specs.declared.Fed.{Fed}
+use Rattle.intake.specs.declared.FedParts.{FedParts}
 
 -- ---- the entries that are fed
 
@@ -39,10 +42,10 @@ fedFrom least (suc k) r file room =
 
 -- ---- what is answered of them
 
--- their bytes in the file: two of length, and the message
-unfoldable pub bytesOf : List Sent → ℕ
+-- the bytes of messages in a file: two of length, and the message
+unfoldable pub bytesOf : List (List ℕ) → ℕ
 bytesOf [] = 0
-bytesOf (x ∷ h) = 2 + length (x .message) + bytesOf h
+bytesOf (m ∷ ms) = 2 + length m + bytesOf ms
 
 -- how many numbers an answer has
 abbrev pub answerNumbers : ℕ
@@ -63,7 +66,7 @@ answersTo r (x ∷ h) = numbersOf (answerTo r x) ++ answersTo (next r x) h
 pub record Feeds (r : Receiver) (h : List Sent) (f : Fed) (a₀ a o₀ o : List ℕ) : Type 0 where
   pub receiver : f .receiver ≡ after r h
   pub entries : f .entries ≡ length h
-  pub used : f .used ≡ bytesOf h
+  pub used : f .used ≡ bytesOf (messagesOf h)
   pub records : recordBytes * f .records ≡ length (written r h)
   pub answers : a ≡ laid a₀ (answersTo r h)
   pub output : o ≡ laid o₀ (written r h)
@@ -75,3 +78,7 @@ pub record TakesEntries (least : ℕ) (r : Receiver) (file : List ℕ) (f : Fed)
   pub used : f .used ≤ length file
   pub places : answerNumbers * f .entries ≤ length a₀
   pub room : recordBytes * f .records ≤ length o₀
+
+-- what is answered of a receiver that is lent in parts, with the contacts where they stand
+abbrev pub fedOf : FedParts → Table → Fed
+fedOf f t = record { receiver = ofParts (f .marks) t; entries = f .entries; used = f .used; records = f .records }

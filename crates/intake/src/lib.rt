@@ -1,12 +1,16 @@
 // The entries of a bench file, fed to a receiver: the bench program's loop, without reading and printing.
 use entries::Front;
 use receiver::Answer;
+use receiver::Marks;
 use receiver::Receiver;
 ghost use mathlib.Core.Path.{_≡_};
 ghost use Prim.Native.Nat.{_≤_, _<_};
 ghost use lib.ListN.{length};
 ghost use Rattle.slices.specs.Writing.{laid};
-ghost use Rattle.intake.specs.Feeding.{nextIn, answerNumbers, numbersOf, TakesEntries};
+ghost use Rattle.machine.specs.Table.{contacts};
+ghost use Rattle.contacts.specs.Ruling.{tableFrom};
+ghost use Rattle.receiver.specs.Events.{ofParts};
+ghost use Rattle.intake.specs.Feeding.{nextIn, answerNumbers, numbersOf, fedOf, TakesEntries};
 
 // How many numbers an answer has: the refusal, frames injected, ignored and cancelled, encodeTime, records.
 pub const ANSWER_NUMBERS: usize = 6;
@@ -14,6 +18,14 @@ pub const ANSWER_NUMBERS: usize = 6;
 // The receiver after the entries that were fed, how many they are, their bytes in the file, and how many records they wrote.
 pub struct Fed {
     pub receiver: Receiver,
+    pub entries: usize,
+    pub used: usize,
+    pub records: usize,
+}
+
+// The same of a receiver that is lent in parts: its marks.
+pub(crate) struct FedParts {
+    pub marks: Marks,
     pub entries: usize,
     pub used: usize,
     pub records: usize,
@@ -43,16 +55,20 @@ fn put_answer(answers: &mut [u32], answer: Answer)
     answers[5] = answer.records as u32;
 }
 
-// Feeds the whole entries at the front of a part of a bench file to a receiver one after the other, each with the output that is
-// left: as long as an answer's place is left in `answers`, and at least `least` bytes of output.
-pub fn take_entries(
-    mut receiver: Receiver,
+// The whole entries at the front of a part of a bench file, fed to a receiver that is lent in parts, so that its contacts are copied
+// once for all of them.
+fn feed_parts(
+    mut marks: Marks,
     file: &[u8],
     least: usize,
     answers: &mut [u32],
     output: &mut [u8],
-) -> Fed
-    ensures { λ r. ⌜ TakesEntries least receiver (now (file .entry)) r (now (answers .entry)) (now (answers .exit)) (now (output .entry)) (now (output .exit)) ⌝ }
+    states: &mut [u8; 256],
+    xs: &mut [i32; 256],
+    ys: &mut [i32; 256],
+) -> FedParts
+    requires { ⌜ length (now states) ≡ contacts ⌝ }
+    ensures { λ r. ⌜ TakesEntries least (ofParts marks (tableFrom (now (states .entry)) (now (xs .entry)) (now (ys .entry)))) (now (file .entry)) (fedOf r (tableFrom (now (states .exit)) (now (xs .exit)) (now (ys .exit)))) (now (answers .entry)) (now (answers .exit)) (now (output .entry)) (now (output .exit)) ⌝ }
 {
     let places = answers.len() / ANSWER_NUMBERS;
     let mut entries: usize = 0;
@@ -66,18 +82,52 @@ pub fn take_entries(
         };
         let from = used + 2;
         let to = from + n;
-        let received = receiver::receive(receiver, &file[from..to], &mut output[end..]);
+        let message = &file[from..to];
+        let turn = receiver::receive_parts(marks, message, &mut output[end..], states, xs, ys);
         let place = ANSWER_NUMBERS * entries;
-        put_answer(&mut answers[place..], received.answer);
-        receiver = received.receiver;
+        put_answer(&mut answers[place..], turn.answer);
+        marks = turn.marks;
         entries += 1;
         used = to;
-        records += received.answer.records;
+        records += turn.answer.records;
     }
-    Fed {
-        receiver: receiver,
+    FedParts {
+        marks: marks,
         entries: entries,
         used: used,
         records: records,
+    }
+}
+
+// Feeds the whole entries at the front of a part of a bench file to a receiver one after the other, each with the output that is
+// left: as long as an answer's place is left in `answers`, and at least `least` bytes of output.
+pub fn take_entries(
+    receiver: Receiver,
+    file: &[u8],
+    least: usize,
+    answers: &mut [u32],
+    output: &mut [u8],
+) -> Fed
+    ensures { λ r. ⌜ TakesEntries least receiver (now (file .entry)) r (now (answers .entry)) (now (answers .exit)) (now (output .entry)) (now (output .exit)) ⌝ }
+{
+    let mut states = receiver.states;
+    let mut xs = receiver.xs;
+    let mut ys = receiver.ys;
+    let marks = receiver::marks_of(receiver);
+    let fed = feed_parts(
+        marks,
+        file,
+        least,
+        answers,
+        output,
+        &mut states,
+        &mut xs,
+        &mut ys,
+    );
+    Fed {
+        receiver: receiver::of_parts(fed.marks, states, xs, ys),
+        entries: fed.entries,
+        used: fed.used,
+        records: fed.records,
     }
 }

@@ -48,6 +48,12 @@ unfolding next answerTo wrote
 a-step-of-the-contract-is-a-step-of-a-history r message before q a output h =
     (h .kept, h .answered, h .output ∙ left-laid before (given (length before) (draftOf (effect r message))))
 
+-- .. and what a message does in a history, the contract allows.
+pub a-step-of-a-history-is-a-step-of-the-contract : (r : Receiver) (message before : List ℕ) → let x : Sent = record { message = message; room = length before } in Receives r message before (next r x) (answerTo r x) (laid before (wrote r x))
+unfolding next answerTo wrote
+a-step-of-a-history-is-a-step-of-the-contract r message before =
+    record { kept = refl; answered = refl; output = sym (left-laid before (given (length before) (draftOf (effect r message)))) }
+
 -- ---- WHAT IS ALWAYS TRUE
 
 -- All 256 contacts are there.

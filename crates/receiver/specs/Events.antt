@@ -30,6 +30,9 @@ use Rattle.contacts.specs.Touch.{touchView}
 
 -- ---- a receiver as its parts: the marks, and the contacts where they stand
 
+abbrev pub marksOf : Receiver → Marks
+marksOf r = record { ready = r .ready; begun = r .begun; ignoring = r .ignoring; settings = r .settings }
+
 abbrev pub ofParts : Marks → Table → Receiver
 ofParts m t = record { ready = m .ready; begun = m .begun; ignoring = m .ignoring; settings = m .settings; states = t .states; xs = t .xs; ys = t .ys }
 

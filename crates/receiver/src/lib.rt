@@ -8,7 +8,7 @@ use paper::Milliseconds;
 ghost use mathlib.Core.Path.{_≡_};
 ghost use Rattle.contacts.specs.Ruling.{tableFrom};
 ghost use Rattle.receiver.specs.Receive as spec;
-ghost use Rattle.receiver.specs.Events.{ofParts, turned, Gives};
+ghost use Rattle.receiver.specs.Events.{marksOf, ofParts};
 
 // One connection's receiver. Each mark is off where it is 0; a fresh receiver is all zeros.
 #[repr(C)]
@@ -47,7 +47,7 @@ pub struct Received {
 }
 
 // A receiver beside its contacts.
-pub(crate) struct Marks {
+pub struct Marks {
     pub ready: u8,
     pub begun: u8,
     pub ignoring: u8,
@@ -55,7 +55,7 @@ pub(crate) struct Marks {
 }
 
 // The marks after a message, and the answer.
-pub(crate) struct Turn {
+pub struct Turn {
     pub marks: Marks,
     pub answer: Answer,
 }
@@ -79,8 +79,9 @@ pub fn fresh() -> Receiver
     }
 }
 
-// What becomes of a message: the marks after it, and the answer; the contacts are changed where they stand.
-fn take(
+// A message to a receiver that is lent in parts, judged and carried out, or refused with nothing changed: the marks after it, and the
+// answer; the contacts are changed where they stand.
+pub fn receive_parts(
     marks: Marks,
     message: &[u8],
     output: &mut [u8],
@@ -88,7 +89,7 @@ fn take(
     xs: &mut [i32; 256],
     ys: &mut [i32; 256],
 ) -> Turn
-    ensures { λ r. ⌜ Gives (ofParts marks (tableFrom (now (states .entry)) (now (xs .entry)) (now (ys .entry)))) (spec.effect (ofParts marks (tableFrom (now (states .entry)) (now (xs .entry)) (now (ys .entry)))) (now (message .entry))) (now (output .entry)) (turned r (tableFrom (now (states .exit)) (now (xs .exit)) (now (ys .exit)))) (now (output .exit)) ⌝ }
+    ensures { λ r. ⌜ spec.Receives (ofParts marks (tableFrom (now (states .entry)) (now (xs .entry)) (now (ys .entry)))) (now (message .entry)) (now (output .entry)) (ofParts (r .marks) (tableFrom (now (states .exit)) (now (xs .exit)) (now (ys .exit)))) (r .answer) (now (output .exit)) ⌝ }
 {
     if marks.ready == 0 {
         return events::receive_ready(marks, message);
@@ -105,6 +106,35 @@ fn take(
     }
 }
 
+// What a receiver has beside its contacts.
+pub fn marks_of(receiver: Receiver) -> Marks
+    ensures { λ r. ⌜ r ≡ marksOf receiver ⌝ }
+{
+    let settings = receiver.settings;
+    Marks {
+        ready: receiver.ready,
+        begun: receiver.begun,
+        ignoring: receiver.ignoring,
+        settings: settings,
+    }
+}
+
+// The receiver that has these marks and contacts.
+pub fn of_parts(marks: Marks, states: [u8; 256], xs: [i32; 256], ys: [i32; 256]) -> Receiver
+    ensures { λ r. ⌜ r ≡ ofParts marks (tableFrom states xs ys) ⌝ }
+{
+    let settings = marks.settings;
+    Receiver {
+        ready: marks.ready,
+        begun: marks.begun,
+        ignoring: marks.ignoring,
+        settings: settings,
+        states: states,
+        xs: xs,
+        ys: ys,
+    }
+}
+
 // A message, judged and carried out, or refused with nothing changed. The contacts are copied once, and lent to all that follows.
 pub fn receive(receiver: Receiver, message: &[u8], output: &mut [u8]) -> Received
     ensures { λ r. ⌜ spec.Receives receiver (now (message .entry)) (now (output .entry)) (r .receiver) (r .answer) (now (output .exit)) ⌝ }
@@ -112,27 +142,11 @@ pub fn receive(receiver: Receiver, message: &[u8], output: &mut [u8]) -> Receive
     let mut states = receiver.states;
     let mut xs = receiver.xs;
     let mut ys = receiver.ys;
-    let settings = receiver.settings;
-    let marks = Marks {
-        ready: receiver.ready,
-        begun: receiver.begun,
-        ignoring: receiver.ignoring,
-        settings: settings,
-    };
-    let turn = take(marks, message, output, &mut states, &mut xs, &mut ys);
-    let after = turn.marks;
-    let settings_after = after.settings;
+    let marks = marks_of(receiver);
+    let turn = receive_parts(marks, message, output, &mut states, &mut xs, &mut ys);
     let answer = turn.answer;
     Received {
-        receiver: Receiver {
-            ready: after.ready,
-            begun: after.begun,
-            ignoring: after.ignoring,
-            settings: settings_after,
-            states: states,
-            xs: xs,
-            ys: ys,
-        },
+        receiver: of_parts(turn.marks, states, xs, ys),
         answer: answer,
     }
 }

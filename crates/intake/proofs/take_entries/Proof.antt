@@ -1,204 +1,35 @@
--- `intake::take_entries` meets its contract. The loop keeps: what is still to come ends as the whole does.
+-- `intake::take_entries` meets its contract: the parts are taken out, and put together again.
 -- Assumes nothing.
 use borrow.Author.Needs.{needs}
-use Prim.Native.Nat.{_+_, _-_, _*_, _^_, _≤_, _<_}
-use mathlib.Core.Path.{_≡_, sym, ap, _∙_}
-use native.Mathlib.Omega.{arith}
-use borrow.Rule.Slice.PartMut.{midOf}
-use lib.ListN.{length, length-map, length-drop}
-use Rattle.slices.proofs.Tails.{tail-is}
-use Rattle.entries.specs.declared.Front.the-variants as Front
-use Rattle.house.specs.Fields.{recordBytes}
-use Rattle.intake.specs.declared.Fed.{Fed}
-use Rattle.intake.specs.Feeding.{nextIn, answerNumbers}
-use Rattle.intake.proofs.Taking.{Stands, Bounded, stands-first, stands-last, stands-stop, stands-next, found-inside, bounded}
+use mathlib.Core.Path.{_≡_, sym, _∙_}
+use lib.ListN.{length, length-map}
 use Rattle.intake.proofs.take_entries.Statement.{statement}
 use Rattle.intake.proofs.take_entries.Tie as tie
 
-abbrev Inv-loop : tie.InvT-loop
-Inv-loop receiver₀ file least answers₀ output₀ places entries₀ used₀ records₀ receiver answers output entries used records =
-    Stands least receiver₀ file answers₀ output₀ (record { receiver = receiver; entries = entries; used = used; records = records }) answers output
-
-abbrev μ-loop : tie.MeasureT-loop
-μ-loop receiver₀ file least answers₀ output₀ places entries₀ used₀ records₀ receiver answers output entries used records =
-    places - entries
-
 -- a receiver's table has 256 states by its type
-whole : (c : tie.Start Inv-loop μ-loop) → length (c .args .receiver .states) ≡ 256
+whole : (c : tie.Start) → length (c .args .receiver .states) ≡ 256
 whole c = sym (length-map (c .args .receiver .states) (λ v. v)) ∙ c .good .0 .1 .1 .1 .1 .1 .1 .0 .1 .0 .1
 
-short : (c : tie.At-loop Inv-loop μ-loop) → let a = c .before .before .before .before .args in (length (a .file .now) < 2 ^ 64) × (length (a .answers .now) * 4 < 2 ^ 64) × (length (a .output .now) < 2 ^ 64)
-short c = let s = c .before .before .before .before in (omega arith, omega arith, omega arith)
+marks-of-requires : tie.Need-marks-of-requires
+marks-of-requires c κs = search needs
 
--- where a turn begins
-abbrev fedAt : tie.At-loop Inv-loop μ-loop → Fed
-fedAt c = record { receiver = c .loop .receiver; entries = c .loop .entries; used = c .loop .used; records = c .loop .records }
+feed-parts-requires : tie.Need-feed-parts-requires
+feed-parts-requires c κs = whole (c .before .before .before .before .before .before .before .before .before .before .before .before)
 
--- the entry that it finds
-found : (c : tie.After-known-told Inv-loop μ-loop) →
-    let p = c .before .before .before .before .before .before in
-    let file = p .before .before .before .before .args .file .now in
-    nextIn (p .before .before .before .before .args .least) (midOf (p .loop .used) (length file - p .loop .used) file) (length (p .loop .output) - recordBytes * p .loop .records) ≡ Front.Entry (c .before .next .given .0 .0)
-found c = sym (c .before .before .before .next-entry .ensures) ∙ c .before .next .given .1
+of-parts-requires : tie.Need-of-parts-requires
+of-parts-requires c κs = search needs
 
-inside : (c : tie.After-known-told Inv-loop μ-loop) → let p = c .before .before .before .before .before .before in p .loop .used + 2 + c .before .next .given .0 .0 ≤ length (p .before .before .before .before .args .file .now)
-inside c = found-inside _ _ _ _ _ _ _ _ (c .before .before .before .before .before .before .loop .inv) _ (found c)
-
-few : (c : tie.After-receive Inv-loop μ-loop) → let p = c .before .before .before .before .before .before .before .before .before in Bounded (p .loop .output) (fedAt p) (c .receive .result .answer)
-few c = let k = c .before .before .before in bounded _ _ _ _ _ _ _ _ (k .before .before .before .before .before .before .loop .inv) _ (found k) _ _ _ (c .receive .ensures)
-
-loop-holds : tie.Need-loop-holds Inv-loop μ-loop
-loop-holds c = stands-first _ _ _ _ _ (whole (c .before .before .before))
-
-mul-end : tie.Need-mul-end Inv-loop μ-loop
-mul-end c = let p = c .before in omega (arith, p .loop .inv .records, p .loop .inv .long, short p .2)
-
-sub-next-entry : tie.Need-sub-next-entry Inv-loop μ-loop
-sub-next-entry c = search needs
-
-part-next-entry-start : tie.Need-part-next-entry-start Inv-loop μ-loop
-part-next-entry-start c = search needs
-
-part-next-entry-end : tie.Need-part-next-entry-end Inv-loop μ-loop
-part-next-entry-end c = search needs
-
-sub-next-entry-2 : tie.Need-sub-next-entry-2 Inv-loop μ-loop
-sub-next-entry-2 c = search needs
-
-next-entry-requires : tie.Need-next-entry-requires Inv-loop μ-loop
-next-entry-requires c κs = search needs
-
-enum-known-next : tie.Need-enum-known-next Inv-loop μ-loop
-enum-known-next c = search needs
-
-enum-told : tie.Need-enum-told Inv-loop μ-loop
-enum-told c = search needs
-
-add-from : tie.Need-add-from Inv-loop μ-loop
-add-from c = omega (arith, inside c, short (c .before .before .before .before .before .before) .0)
-
-add-to : tie.Need-add-to Inv-loop μ-loop
-add-to c = omega (arith, inside c, short (c .before .before .before .before .before .before) .0)
-
-sub-receive : tie.Need-sub-receive Inv-loop μ-loop
-sub-receive c = search needs
-
-part-receive-start : tie.Need-part-receive-start Inv-loop μ-loop
-part-receive-start c = search needs
-
-part-receive-end : tie.Need-part-receive-end Inv-loop μ-loop
-part-receive-end c = omega (arith, inside c)
-
-sub-receive-2 : tie.Need-sub-receive-2 Inv-loop μ-loop
-sub-receive-2 c = search needs
-
-part-receive-start-2 : tie.Need-part-receive-start-2 Inv-loop μ-loop
-part-receive-start-2 c = search needs
-
-part-receive-end-2 : tie.Need-part-receive-end-2 Inv-loop μ-loop
-part-receive-end-2 c = search needs
-
-receive-requires : tie.Need-receive-requires Inv-loop μ-loop
-receive-requires c κs = search needs
-
-mul-place : tie.Need-mul-place Inv-loop μ-loop
-mul-place c = let p = c .before .before .before .before .before .before .before .before .before .before .before in omega (arith, p .loop .inv .entries, short p .1)
-
-mul-put-answer : tie.Need-mul-put-answer Inv-loop μ-loop
-mul-put-answer c = let p = c .before .before .before .before .before .before .before .before .before .before .before in omega (arith, p .loop .inv .entries, short p .1)
-
-sub-put-answer : tie.Need-sub-put-answer Inv-loop μ-loop
-sub-put-answer c = let p = c .before .before .before .before .before .before .before .before .before .before .before in omega (arith, p .loop .inv .entries, p .loop .inv .list)
-
-part-put-answer-start : tie.Need-part-put-answer-start Inv-loop μ-loop
-part-put-answer-start c = let p = c .before .before .before .before .before .before .before .before .before .before .before in omega (arith, p .loop .inv .entries, p .loop .inv .list)
-
-part-put-answer-end : tie.Need-part-put-answer-end Inv-loop μ-loop
-part-put-answer-end c = search needs
-
-put-answer-requires : tie.Need-put-answer-requires Inv-loop μ-loop
-put-answer-requires c κs =
-    let t = c .before .before .before in
-    let p = t .before .before .before .before .before .before .before .before .before in
-    let n = ap length (tail-is (p .loop .answers) (answerNumbers * p .loop .entries)) ∙ length-drop (answerNumbers * p .loop .entries) (p .loop .answers) in
-    (omega (arith, t .before .before .before .before .before .before .before .before .loop-test .taken, p .loop .inv .list), omega (arith, few t .small))
-
-add-entries : tie.Need-add-entries Inv-loop μ-loop
-add-entries c = let t = c .before .before .before .before .before .before .before in omega (arith, t .before .before .before .before .before .before .before .before .loop-test .taken, short (t .before .before .before .before .before .before .before .before .before) .1)
-
-add-records : tie.Need-add-records Inv-loop μ-loop
-add-records c =
-    let t = c .before .before .before .before .before .before .before .before in
-    let p = t .before .before .before .before .before .before .before .before .before in
-    omega (arith, few t .records, p .loop .inv .long, short p .2)
-
-loop-less : tie.Need-loop-less Inv-loop μ-loop
-loop-less c = omega (arith, c .before .before .before .before .before .before .before .before .before .before .before .before .before .before .before .before .loop-test .taken)
-
-loop-again : tie.Need-loop-again Inv-loop μ-loop
-loop-again c =
-    let t = c .before .before .before .before .before .before .before .before in
-    let k = t .before .before .before in
-    let p = k .before .before .before .before .before .before in
-    stands-next _ _ _ _ _ _ _ _ (p .loop .inv) _ (found k) _ _ _ (t .receive .ensures) _ (k .before .before .before .before .before .loop-test .taken) (c .before .before .before .before .put-answer .ensures)
-
-same-length : tie.Need-same-length Inv-loop μ-loop
+same-length : tie.Need-same-length
 same-length c = search needs
 
-same-length-2 : tie.Need-same-length-2 Inv-loop μ-loop
+same-length-2 : tie.Need-same-length-2
 same-length-2 c = search needs
 
-returns : tie.Need-returns Inv-loop μ-loop
-returns c = stands-last _ _ _ _ _ _ _ _ (c .before .loop .inv) (c .loop-test .left)
-
-same-length-3 : tie.Need-same-length-3 Inv-loop μ-loop
-same-length-3 c = search needs
-
-same-length-4 : tie.Need-same-length-4 Inv-loop μ-loop
-same-length-4 c = search needs
-
-returns-2 : tie.Need-returns-2 Inv-loop μ-loop
-returns-2 c =
-    let n = c .before .before in
-    stands-stop _ _ _ _ _ _ _ _ (n .before .before .before .loop .inv) (sym (n .next-entry .ensures) ∙ c .enum-told .given .1)
+returns : tie.Need-returns
+returns c =
+    let p = c .before .before .before .before .before in
+    let m = p .before .before .before .before .before .before in
+    rw (c .of-parts .ensures) (rw (m .marks-of .ensures) at (p .feed-parts .ensures))
 
 pub take-entries-spec : {M : Type 1} → statement M
-take-entries-spec =
-    tie.close
-    (tie.spec
-    Inv-loop
-    μ-loop
-    loop-holds
-    mul-end
-    sub-next-entry
-    part-next-entry-start
-    part-next-entry-end
-    sub-next-entry-2
-    next-entry-requires
-    enum-known-next
-    enum-told
-    add-from
-    add-to
-    sub-receive
-    part-receive-start
-    part-receive-end
-    sub-receive-2
-    part-receive-start-2
-    part-receive-end-2
-    receive-requires
-    mul-place
-    mul-put-answer
-    sub-put-answer
-    part-put-answer-start
-    part-put-answer-end
-    put-answer-requires
-    add-entries
-    add-records
-    loop-less
-    loop-again
-    same-length
-    same-length-2
-    returns
-    same-length-3
-    same-length-4
-    returns-2)
+take-entries-spec = tie.close (tie.spec marks-of-requires feed-parts-requires of-parts-requires same-length same-length-2 returns)

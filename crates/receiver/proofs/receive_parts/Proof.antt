@@ -1,19 +1,20 @@
--- `receiver::take` meets its contract.
+-- `receiver::receive_parts` meets its contract.
 -- Assumes nothing.
 use borrow.Author.Needs.{needs}
+use mathlib.Core.Path.{refl}
 use native.Mathlib.Omega.{arith}
 use borrow.Author.Tests.{eq-eqb, ne-eqb}
 use Rattle.formats.proofs.Steps.{tail}
-use Rattle.receiver.proofs.Answering.{gives-refused, gives-same, turned-same}
+use Rattle.receiver.proofs.Answering.{gives-refused, gives-receives, turned-same}
 use Rattle.receiver.proofs.Bodies.{header-long, ready-refused, ready-touch, ready-dismiss}
-use Rattle.receiver.proofs.take.Statement.{statement}
-use Rattle.receiver.proofs.take.Tie as tie
+use Rattle.receiver.proofs.receive_parts.Statement.{statement}
+use Rattle.receiver.proofs.receive_parts.Tie as tie
 
 receive-ready-requires : tie.Need-receive-ready-requires
 receive-ready-requires c κs = search needs
 
 returns : tie.Need-returns
-returns c = c .receive-ready .ensures (eq-eqb _ 0 (c .before .if1 .taken)) _ _
+returns c = gives-receives _ _ _ _ _ _ refl (c .receive-ready .ensures (eq-eqb _ 0 (c .before .if1 .taken)) _ _)
 
 read-header-requires : tie.Need-read-header-requires
 read-header-requires c κs = search needs
@@ -48,7 +49,7 @@ returns-2 c =
     let i = r .before .before .before .before .before in
     let e = i .before .before .before in
     let h = e .before .before in
-    gives-same _ _ _ _ _ _ (ready-touch _ _ _ (ne-eqb _ 0 (h .before .if1 .left)) (h .read-header .ensures) _ (e .e2 .given .1) (i .if2 .taken))
+    gives-receives _ _ _ _ _ _ (ready-touch _ _ _ (ne-eqb _ 0 (h .before .if1 .left)) (h .read-header .ensures) _ (e .e2 .given .1) (i .if2 .taken))
     (rw (tail (h .before .before .before .before .before .args .message .now) 6) at (r .receive-touch .ensures))
 
 receive-dismiss-requires : tie.Need-receive-dismiss-requires
@@ -58,7 +59,8 @@ returns-3 : tie.Need-returns-3
 returns-3 c =
     let e = c .before .before in
     let h = e .before .before in
-    gives-refused _ _ _ _ _ (ready-refused _ _ _ (ne-eqb _ 0 (h .before .if1 .left)) (h .read-header .ensures) _ (e .e .given .1)) (turned-same _ _ _ (c .refuse .ensures))
+    gives-receives _ _ _ _ _ _ refl
+    (gives-refused _ _ _ _ _ (ready-refused _ _ _ (ne-eqb _ 0 (h .before .if1 .left)) (h .read-header .ensures) _ (e .e .given .1)) (turned-same _ _ _ (c .refuse .ensures)))
 
 same-length-2 : tie.Need-same-length-2
 same-length-2 c = search needs
@@ -69,11 +71,11 @@ returns-4 c =
     let i = r .before .before .before .before .before in
     let e = i .before .before .before in
     let h = e .before .before in
-    gives-same _ _ _ _ _ _ (ready-dismiss _ _ _ (ne-eqb _ 0 (h .before .if1 .left)) (h .read-header .ensures) _ (e .e2 .given .1) (i .if2 .left))
+    gives-receives _ _ _ _ _ _ (ready-dismiss _ _ _ (ne-eqb _ 0 (h .before .if1 .left)) (h .read-header .ensures) _ (e .e2 .given .1) (i .if2 .left))
     (rw (tail (h .before .before .before .before .before .args .message .now) 6) at (r .receive-dismiss .ensures))
 
-pub take-spec : {M : Type 1} → statement M
-take-spec =
+pub receive-parts-spec : {M : Type 1} → statement M
+receive-parts-spec =
     tie.close
     (tie.spec
     receive-ready-requires

@@ -1,0 +1,3 @@
+-- Many messages in one call.
+pub mod Batch
+pub mod Cutting

@@ -37,7 +37,8 @@ enum kangirlo_refusal {
 	KANGIRLO_BAD_RECORD = 14,   /* a record that is not well formed */
 	KANGIRLO_NOT_READY = 15,    /* client ready before server ready was taken, or again; touch or dismiss before client ready */
 	KANGIRLO_SUSPENDED = 16,    /* touch while suspended */
-	KANGIRLO_ILLEGAL = 17       /* a frame that would not conform; a dismissal of a contact that is not hovering */
+	KANGIRLO_ILLEGAL = 17,      /* a frame that would not conform; a dismissal of a contact that is not hovering */
+	KANGIRLO_BAD_BATCH = 18     /* a batch whose last entry is incomplete, or that has more entries than places for answers */
 };
 
 /* The limits: a message, a record, and the most that one message makes a receiver write. */
@@ -91,6 +92,26 @@ struct kangirlo_answer {
 	size_t records;         /* records written from the output's first byte, 21 bytes each */
 };
 
+/* What became of one message of a batch: what a kangirlo_answer says of it, as six numbers. */
+struct kangirlo_batch_answer {
+	uint32_t refusal;
+	uint32_t injected;
+	uint32_t ignored;
+	uint32_t cancelled;
+	uint32_t time;          /* milliseconds */
+	uint32_t records;       /* records written behind those of the messages before */
+};
+
+/* What became of a batch. */
+struct kangirlo_batch {
+	uint8_t refusal;        /* 0, whatever became of its messages; or 18, with nothing fed */
+	size_t entries;         /* answers written from the list's first place: one for each entry, refused ones too */
+	size_t records;         /* records written from the output's first byte, of all messages together */
+};
+
+/* How many numbers so many places for answers are. */
+#define KANGIRLO_BATCH_NUMBERS(places) (6 * (size_t)(places))
+
 /* What the plain reading answers. */
 struct kangirlo_plain_answer {
 	uint8_t refusal;
@@ -132,6 +153,15 @@ struct kangirlo_receiver kangirlo_fresh(void);
  * byte, and nothing past them is touched. Refused with 13 where the output is too short for them; 48 KiB is enough for any message. */
 struct kangirlo_answer kangirlo_receive(struct kangirlo_receiver *receiver, const uint8_t *message, size_t length, uint8_t *output,
                                         size_t room);
+
+/* Many messages in one call. The buffer holds entries, each a length of 2 bytes, most significant first, and so many bytes of a
+ * message. Each message is fed as by kangirlo_receive, with the output that is left behind the records before: one that is refused,
+ * by 13 too, takes none of it, and the next goes on. Its answer stands in the place of its number. Places past the last answer and
+ * bytes past the last record are not touched. Refused with 18, before anything is fed, where the last entry is incomplete or there
+ * are fewer places than entries. `numbers` is KANGIRLO_BATCH_NUMBERS of the places that are lent. */
+struct kangirlo_batch kangirlo_receive_all(struct kangirlo_receiver *receiver, const uint8_t *buffer, size_t buffer_length,
+                                           struct kangirlo_batch_answer *answers, size_t numbers, uint8_t *output,
+                                           size_t output_length);
 
 /* Reads a touch message by itself, with no receiver: its heads and contacts as records. */
 struct kangirlo_plain_answer kangirlo_plain(const uint8_t *message, size_t length, uint8_t *output, size_t room);
@@ -194,6 +224,13 @@ KANGIRLO_ASSERT(offsetof(struct kangirlo_panel, begun) == 3 && offsetof(struct k
 KANGIRLO_ASSERT(offsetof(struct kangirlo_panel, states) == 16);
 KANGIRLO_ASSERT(offsetof(struct kangirlo_panel, xs) == 272 && offsetof(struct kangirlo_panel, ys) == 1296);
 KANGIRLO_ASSERT(sizeof(struct kangirlo_answer) == 16 && KANGIRLO_ALIGN(struct kangirlo_answer) == 8);
+KANGIRLO_ASSERT(sizeof(struct kangirlo_batch_answer) == 24 && KANGIRLO_ALIGN(struct kangirlo_batch_answer) == 4);
+KANGIRLO_ASSERT(sizeof(struct kangirlo_batch_answer) == KANGIRLO_BATCH_NUMBERS(1) * sizeof(uint32_t));
+KANGIRLO_ASSERT(offsetof(struct kangirlo_batch_answer, refusal) == 0 && offsetof(struct kangirlo_batch_answer, injected) == 4);
+KANGIRLO_ASSERT(offsetof(struct kangirlo_batch_answer, ignored) == 8 && offsetof(struct kangirlo_batch_answer, cancelled) == 12);
+KANGIRLO_ASSERT(offsetof(struct kangirlo_batch_answer, time) == 16 && offsetof(struct kangirlo_batch_answer, records) == 20);
+KANGIRLO_ASSERT(sizeof(struct kangirlo_batch) == 24 && KANGIRLO_ALIGN(struct kangirlo_batch) == 8);
+KANGIRLO_ASSERT(offsetof(struct kangirlo_batch, entries) == 8 && offsetof(struct kangirlo_batch, records) == 16);
 KANGIRLO_ASSERT(sizeof(struct kangirlo_plain_answer) == 16 && KANGIRLO_ALIGN(struct kangirlo_plain_answer) == 8);
 KANGIRLO_ASSERT(sizeof(struct kangirlo_written) == 16 && KANGIRLO_ALIGN(struct kangirlo_written) == 8);
 KANGIRLO_ASSERT(sizeof(struct kangirlo_record) == 40 && KANGIRLO_ALIGN(struct kangirlo_record) == 8);

@@ -1,4 +1,4 @@
--- Two outcomes that the contract of a call allows are equal: in its answer, in the receiver that it was lent and in the output.
+-- Two outcomes that the contract of a call allows are equal: in its answer, in the receiver that it was lent, in the list of answers and in the output.
 -- Assumes nothing.
 use Prim.Native.Nat.{ℕ}
 use mathlib.Core.Path.{_≡_, sym, _∙_}
@@ -17,6 +17,9 @@ use Rattle.receiver.specs.Receive.{fresh, Receives}
 use Rattle.receiver.specs.declared.Receiver.{Receiver}
 use Rattle.receiver.specs.declared.Answer.{Answer}
 use Rattle.receiver.proofs.Unique.{Same, fresh-unique, receive-unique}
+use Rattle.bursts.specs.Batch.{ReceivesAll}
+use Rattle.bursts.specs.declared.Batch.{Batch}
+use Rattle.bursts.proofs.Unique.{Same as SameBatch, receive-all-unique}
 use Rattle.kangirlo.specs.Flat.{flat}
 use Rattle.kangirlo.specs.declared.FlatRecord.{FlatRecord}
 
@@ -28,6 +31,8 @@ pub record Calls : Type 0 where
   pub kangirlo-fresh : (a b : Receiver) → a ≡ fresh → b ≡ fresh → a ≡ b
   pub kangirlo-receive : (r : Receiver) (message before : List ℕ) (p q : Receiver) (a b : Answer) (s t : List ℕ)
       → Receives r message before p a s → Receives r message before q b t → Same p q a b s t
+  pub kangirlo-receive-all : (r : Receiver) (buffer : List ℕ) (p q : Receiver) (b c : Batch) (a₀ a a′ o₀ o o′ : List ℕ)
+      → ReceivesAll r buffer p b a₀ a o₀ o → ReceivesAll r buffer q c a₀ a′ o₀ o′ → SameBatch p q b c a a′ o o′
   pub kangirlo-plain : (message : List ℕ) (a b : PlainAnswer) (before after after′ : List ℕ)
       → ReadsPlainly message a before after → ReadsPlainly message b before after′ → (a ≡ b) × (after ≡ after′)
   pub kangirlo-write-server-ready : (version : ℕ) → One (serverReadyDraft version)
@@ -43,6 +48,7 @@ calls-unique =
     record {
       kangirlo-fresh = fresh-unique;
       kangirlo-receive = receive-unique;
+      kangirlo-receive-all = receive-all-unique;
       kangirlo-plain = plain-unique;
       kangirlo-write-server-ready = writers-unique .write-server-ready;
       kangirlo-write-client-ready = λ flags version most. writers-unique .write-client-ready (record { flags = flags; version = version; most = most });

@@ -1,4 +1,5 @@
 // The C face: each call of include/kangirlo.h, a thin function over the call that does the work, with that call's contract.
+use bursts::Batch;
 use house::Contact;
 use house::Head;
 use house::Record;
@@ -15,6 +16,7 @@ ghost use Rattle.messages.specs.Bodies.{serverReadyDraft, clientReadyDraft, sus
 ghost use Rattle.reading.specs.Plain.{ReadsPlainly};
 ghost use Rattle.writing.specs.TouchDraft.{touchDraft};
 ghost use Rattle.receiver.specs.Receive.{fresh, Receives};
+ghost use Rattle.bursts.specs.Batch.{ReceivesAll};
 ghost use Rattle.kangirlo.specs.Flat.{flat, flattened, bare, flatHead, flatContact, refused as refusedRecord};
 
 // A record as numbers alone, since an enum does not cross to C. What its kind does not have is 0.
@@ -57,6 +59,21 @@ pub extern "C" fn kangirlo_receive(
     let received = receiver::receive(*receiver, message, output);
     *receiver = received.receiver;
     received.answer
+}
+
+// All entries of a buffer, fed to a receiver where it stands, each with the output that is left; or all refused with nothing changed.
+#[no_mangle]
+pub extern "C" fn kangirlo_receive_all(
+    receiver: &mut Receiver,
+    buffer: &[u8],
+    answers: &mut [u32],
+    output: &mut [u8],
+) -> Batch
+    ensures { λ b. ⌜ ReceivesAll (now (receiver .entry)) (now (buffer .entry)) (now (receiver .exit)) b (now (answers .entry)) (now (answers .exit)) (now (output .entry)) (now (output .exit)) ⌝ }
+{
+    let received = bursts::receive_all(*receiver, buffer, answers, output);
+    *receiver = received.receiver;
+    received.batch
 }
 
 // A touch message read by itself.

@@ -38,13 +38,13 @@ abbrev Allowed : Receiver → Call → Type 0
 Allowed r c = Receives r (c .message) (c .before) (c .receiver) (c .answer) (c .after)
 
 module _ (r : Receiver) (c : Call) (k : Allowed r c) where
-  call-step : (c .receiver ≡ next r (sentBy c)) × (c .answer ≡ answerTo r (sentBy c)) × (c .after ≡ laid (c .before) (wrote r (sentBy c)))
+  pub call-step : (c .receiver ≡ next r (sentBy c)) × (c .answer ≡ answerTo r (sentBy c)) × (c .after ≡ laid (c .before) (wrote r (sentBy c)))
   call-step = a-step-of-the-contract-is-a-step-of-a-history r (c .message) (c .before) (c .receiver) (c .answer) (c .after) k
 
-  call-receiver : c .receiver ≡ next r (sentBy c)
+  pub call-receiver : c .receiver ≡ next r (sentBy c)
   call-receiver = call-step .0
 
-  call-answer : c .answer ≡ answerTo r (sentBy c)
+  pub call-answer : c .answer ≡ answerTo r (sentBy c)
   call-answer = call-step .1
 
   pub call-left : recordsLeft c ≡ wrote r (sentBy c)
@@ -60,7 +60,7 @@ module _ (r : Receiver) (c : Call) (k : Allowed r c) where
 
 -- ---- calls are a history
 
-abbrev sent : List Call → List Sent
+abbrev pub sent : List Call → List Sent
 sent [] = []
 sent (c ∷ cs) = sentBy c ∷ sent cs
 
@@ -72,12 +72,12 @@ sent-bytes : (cs : List Call) → All (λ c. Bytes (c .message)) cs → OfBytes 
 sent-bytes [] b = tt
 sent-bytes (c ∷ cs) b = (b .0, sent-bytes cs (b .1))
 
-calls-last : (r : Receiver) (cs : List Call) → Calls r cs → last r cs ≡ after r (sent cs)
+pub calls-last : (r : Receiver) (cs : List Call) → Calls r cs → last r cs ≡ after r (sent cs)
 unfolding Calls last after
 calls-last r [] k = refl
 calls-last r (c ∷ cs) k = calls-last (c .receiver) cs (k .1) ∙ ap (λ (q : Receiver). after q (sent cs)) (call-receiver r c (k .0))
 
-calls-left : (r : Receiver) (cs : List Call) → Calls r cs → allLeft cs ≡ written r (sent cs)
+pub calls-left : (r : Receiver) (cs : List Call) → Calls r cs → allLeft cs ≡ written r (sent cs)
 unfolding Calls allLeft written
 calls-left r [] k = refl
 calls-left r (c ∷ cs) k =

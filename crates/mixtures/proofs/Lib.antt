@@ -1,0 +1,3 @@
+pub mod Singly
+pub mod Making
+pub mod Mixtures

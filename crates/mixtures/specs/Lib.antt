@@ -1,0 +1,3 @@
+-- Batches and single calls of one receiver, in any order.
+pub mod Singly
+pub mod Mixtures

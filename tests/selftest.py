@@ -4,11 +4,13 @@ import random
 import sys
 
 import corpus
+import make_batch
 import make_panel
 import make_plain
 import panels
 from corpus import contact, frame
 from reference import entries, house, integers, messages, panel, programs, receiver
+from reference.batch import Batch, receive_all
 from reference.integers import S2, S4, U2, U4, U8
 from reference.refusals import Refused
 
@@ -472,6 +474,121 @@ def check_panel_corpora():
         same("bench", {(words[1], words[3], words[4]) for words in answers}, {("0", "0", "0")})
 
 
+# Many messages in one call: a file with its bytes written out, and what 'batch' prints for it.
+
+READY_ENTRY, DOWN_ENTRY, LIFT_ENTRY, UPDATE_ENTRY = (
+    f"{length} {text}" for length, text in zip(("00 10", "00 11", "00 11", "00 11"), BENCH_ENTRIES)
+)
+DISMISS_ENTRY = "00 07 06 00 07 00 00 00 01"
+EXAMPLE_BUFFER = f"{READY_ENTRY} {DOWN_ENTRY} {LIFT_ENTRY} {UPDATE_ENTRY}"
+WENT_DOWN, WENT_UP = (
+    f"0 1 0 0 0 2 {bytes.fromhex(HEAD + record).hex()}" for record in (DOWN_RECORD, LIFT_RECORD)
+)
+
+BATCH_FILE = (
+    ("", ("bad",)),
+    ("00 00 00 00 00", ("bad",)),
+    ("00 00 00 00 00 00", ("0 0 0",)),
+    (f"00 00 00 2A 00 01 {DOWN_ENTRY}", ("0 1 0", "3 0 0 0 0 0")),
+    (f"00 00 00 54 00 03 {EXAMPLE_BUFFER}", ("18 0 0",)),
+    (f"00 00 00 54 00 04 {EXAMPLE_BUFFER}", ("0 4 4", "0 0 0 0 0 0", WENT_DOWN, WENT_UP, "0 0 0 1 0 0")),
+    # Ignoring: the contact that would open finds no room.
+    (f"00 00 00 29 00 03 {DOWN_ENTRY} {DISMISS_ENTRY} 00 00", ("0 3 0", "13 0 0 0 0 0", "0 0 0 0 0 0", "1 0 0 0 0 0")),
+    (f"00 00 00 2A 01 00 {UPDATE_ENTRY} {DOWN_ENTRY}", ("0 2 2", "0 0 1 0 0 0", WENT_DOWN)),
+    (f"00 00 00 2A 00 00 {LIFT_ENTRY}", ("18 0 0",)),
+    (f"00 00 00 2A 00 02 {LIFT_ENTRY} 00", ("18 0 0",)),
+    (f"00 00 00 2A 00 02 {LIFT_ENTRY} 00 01", ("18 0 0",)),
+    ("00 00 00 2A 00 02 00 00 00", ("18 0 0",)),
+    (f"00 00 00 53 00 02 {LIFT_ENTRY} {DOWN_ENTRY}", ("0 2 2", WENT_UP, "13 0 0 0 0 0")),
+    (f"00 00 00 00 00 02 10 01 {'00' * 4097} {DISMISS_ENTRY}", ("0 2 0", "2 0 0 0 0 0", "0 0 0 0 0 0")),
+    (f"FF FF FF FF FF FF {DOWN_ENTRY}", ("0 1 2", WENT_DOWN)),
+    (f"FF FF FF FF FF FF {'00' * 2 * 4097}", ("18 0 0",)),
+    (f"FF FF FF FF FF FF {'00' * 2 * 4096}", ("0 4096 0", *["1 0 0 0 0 0"] * 4096)),
+    (f"00 02 00 00 00 01 {LIFT_ENTRY}", ("0 1 2", WENT_UP)),
+)
+
+
+def check_batch_file():
+    data = entries.join(bytes.fromhex(text) for text, _ in BATCH_FILE)
+    want = ""
+    for number, (_, (first, *fed)) in enumerate(BATCH_FILE, 1):
+        want += f"{number} {first}\n" + "".join(f"{number}.{place} {line}\n" for place, line in enumerate(fed, 1))
+    same("batch file", programs.batch(data), want)
+    same("batch file cut", programs.batch(data + b"\0\7\0\0\0\0\0\0"), want + "19 cut\n")
+    same("batch file half length", programs.batch(data + b"\0"), want + "19 cut\n")
+    same("no batch file", programs.batch(b""), "")
+
+
+def check_receiver_rules_in_batches():
+    for rule, steps in RULES:
+        answers = [None] * len(steps)
+        buffer = entries.join(message for message, _ in steps)
+        _, answer = receive_all(receiver.Receiver(), buffer, answers, bytearray(programs.MOST_LENT_TO_BATCH))
+        same(f"{rule}, in one batch", answers, [want for _, want in steps])
+        same(f"{rule}, batch", answer, (0, len(steps), sum(want[-1] for _, want in steps)))
+
+
+# The laws of a batch, over the corpora: what is lent is filled beforehand, so that whatever stays shows.
+
+
+def lent_list(places):
+    return ["as it was"] * places
+
+
+def lent_output(room):
+    return bytearray(b"\xee" * room)
+
+
+def check_batch_laws(rng):
+    for maker in (
+        make_batch.main_batches,
+        make_batch.untimed_batches,
+        make_batch.crowded_batches,
+        make_batch.single_batches,
+    ):
+        host, keeper = maker(), receiver.Receiver()
+        for payload in host.entries:
+            if len(payload) >= 6:
+                room, places = int.from_bytes(payload[:4], "big"), int.from_bytes(payload[4:6], "big")
+                keeper = check_batch(rng, keeper, payload[6:], min(room, 131072), min(places, 4096))
+        same(f"{maker.__name__} leave", keeper, host.keeper)
+
+
+def check_batch(rng, keeper, buffer, room, places):
+    """The receiver after a batch: 18 changed nothing, or it is as if fed singly, and as two batches."""
+    answers, output = lent_list(places), lent_output(room)
+    after, answer = receive_all(keeper, buffer, answers, output)
+    have = (after, answer, answers, output)
+    payloads, cut = entries.split(buffer)
+    if cut or places < len(payloads):
+        same("BadBatch", have, (keeper, (18, 0, 0), lent_list(places), lent_output(room)))
+    else:
+        same("fed singly", have, fed_singly(keeper, payloads, room, places))
+        same("two batches", have, in_two_batches(keeper, payloads, rng.randint(0, len(payloads)), room, places))
+    return after
+
+
+def fed_singly(keeper, payloads, room, places):
+    answers, records = [], b""
+    for payload in payloads:
+        output = bytearray(room - len(records))
+        keeper, answer = receiver.receive(keeper, payload, output)
+        answers.append(answer)
+        records += output[: answer.records * house.LENGTH]
+    answer = Batch(0, len(payloads), len(records) // house.LENGTH)
+    return keeper, answer, answers + lent_list(places - len(payloads)), records + lent_output(room - len(records))
+
+
+def in_two_batches(keeper, payloads, at, room, places):
+    first_answers, second_answers = lent_list(at), lent_list(places - at)
+    output = lent_output(room)
+    keeper, first = receive_all(keeper, entries.join(payloads[:at]), first_answers, output)
+    left = memoryview(output)[first.records * house.LENGTH :]
+    keeper, second = receive_all(keeper, entries.join(payloads[at:]), second_answers, left)
+    answer = Batch(0, first.entries + second.entries, first.records + second.records)
+    return keeper, answer, first_answers + second_answers, output
+
+
 def main():
     rng = random.Random(SEED)
     check_integers()
@@ -491,6 +608,9 @@ def main():
     check_panel_rules()
     check_panel_output()
     check_panel_corpora()
+    check_batch_file()
+    check_receiver_rules_in_batches()
+    check_batch_laws(rng)
     for difference in differences:
         print(difference)
     print("differences", len(differences))

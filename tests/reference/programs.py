@@ -1,6 +1,7 @@
 """What each test program prints for a given standard input."""
 
 from . import entries, house, integers, messages, receiver
+from .batch import receive_all
 from .output import Written, written
 from .panel import Panel, take, write_dismiss, write_ready, write_touch
 from .refusals import BAD_RECORD, NONE, Refused
@@ -8,6 +9,8 @@ from .refusals import BAD_RECORD, NONE, Refused
 LENT_TO_READERS = 48 * 1024
 LENT_TO_TOUCH_WRITER = messages.LONGEST_MESSAGE
 MOST_LENT_TO_PANEL = messages.LONGEST_MESSAGE
+MOST_LENT_TO_BATCH = 131072
+MOST_PLACES_OF_BATCH = 4096
 LONGEST_LENT_TO_VECTORS = 32
 FILLING = 0xEE
 
@@ -68,6 +71,55 @@ def in_place(data):
         return " ".join(str(int(each)) for each in (answer.refusal, answer.records, *marks, len(keeper.active)))
 
     return lines(data, line)
+
+
+# batch: one fresh receiver takes all batches
+
+
+def batch(data):
+    results = enumerate(batches(data), 1)
+
+    def line(_payload):
+        number, (answer, fed) = next(results)
+        return "bad" if answer is None else batch_lines(number, answer, fed)
+
+    return lines(data, line)
+
+
+def batches(data):
+    """Each complete entry's answer, None for a bad one, and what it fed."""
+    payloads, _ = entries.split(data)
+    keeper = receiver.Receiver()
+    for payload in payloads:
+        keeper, answer, fed = batch_call(keeper, payload)
+        yield answer, fed
+
+
+def batch_call(keeper, payload):
+    """Room, places, a buffer: the receiver after it, the answer, and of each entry fed its answer and its records."""
+    if len(payload) < 6:
+        return keeper, None, []
+    output = bytearray(min(big_endian(payload[:4]), MOST_LENT_TO_BATCH))
+    answers = [None] * min(big_endian(payload[4:6]), MOST_PLACES_OF_BATCH)
+    after, answer = receive_all(keeper, payload[6:], answers, output)
+    return after, answer, list(with_records(answers[: answer.entries], output))
+
+
+def with_records(answers, output):
+    """Each answer with the bytes of its records, which follow those of the answers before it."""
+    at = 0
+    for answer in answers:
+        end = at + answer.records * house.LENGTH
+        yield answer, bytes(output[at:end])
+        at = end
+
+
+def batch_lines(number, answer, fed):
+    """The batch's own line but for its number, and below it one for each entry fed."""
+    texts = [" ".join(map(str, answer))]
+    for place, (each, written_records) in enumerate(fed, 1):
+        texts.append(" ".join([f"{number}.{place}", *map(str, each), *filter(None, [written_records.hex()])]))
+    return "\n".join(texts)
 
 
 # plain

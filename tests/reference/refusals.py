@@ -1,4 +1,7 @@
-"""The refusal numbers: fourteen of the rules ("Refusal numbers and their order"), 15 to 17 of request #101."""
+"""The refusal numbers.
+
+Fourteen of the rules ("Refusal numbers and their order"), 15 to 17 of request #101, 18 of request #102.
+"""
 
 NONE = 0
 SHORT = 1
@@ -18,6 +21,7 @@ BAD_RECORD = 14
 NOT_READY = 15
 SUSPENDED = 16
 ILLEGAL = 17
+BAD_BATCH = 18
 
 NAMES = {
     NONE: "accepted",
@@ -38,6 +42,7 @@ NAMES = {
     NOT_READY: "NotReady",
     SUSPENDED: "Suspended",
     ILLEGAL: "Illegal",
+    BAD_BATCH: "BadBatch",
 }
 
 

@@ -1,4 +1,4 @@
--- The fewest digits of a number are its decimal digits.
+-- The fewest digits of a number are its decimal digits, and how many these are at most.
 -- Assumes nothing.
 use Prim.Native.Nat.{ℕ, zero, suc, _-_, _/_, _%_, _^_, _≤_, _<_}
 use mathlib.Core.Path.{_≡_, refl, sym, ap, _∙_}
@@ -6,7 +6,8 @@ use mathlib.Core.Bool.{Bool, true, false, cond}
 use mathlib.Core.List.{List, [], _∷_, _++_}
 use native.Mathlib.Nat.{pow-suc, pow-le-pow-right}
 use native.Mathlib.Omega.{arith}
-use lib.Dec.{lit<, leb}
+use lib.Dec.{lit<, leb, ltb}
+use lib.ListN.{length, length-append}
 use borrow.Author.Tests.{lt-ltb, le-ltb, leb-true, leb-false}
 use Rattle.io.specs.Digits.{glyph, digits, Fewest}
 use Rattle.lines.specs.Page.{decimalFrom, decimal}
@@ -53,3 +54,12 @@ few-digits n c h f = go (leb c 19) refl
 pub decimal-digits : (n count : ℕ) → n < 2 ^ 64 → Fewest 10 1 n count → digits 10 count n ≡ decimal n
 decimal-digits n zero h f = absurd (omega (arith, f .0))
 decimal-digits n (suc c) h f = from-digits 19 n c f (few-digits n c h f)
+
+pub digits-few : (k n : ℕ) → length (decimalFrom k n) ≤ suc k
+unfolding decimalFrom
+digits-few zero n = omega arith
+digits-few (suc k) n = go (ltb n 10) (digits-few k (n / 10))
+  where
+    go : (b : Bool) → length (decimalFrom k (n / 10)) ≤ suc k → length (cond b (glyph n ∷ []) (decimalFrom k (n / 10) ++ (glyph (n % 10) ∷ []))) ≤ suc (suc k)
+    go true h = omega arith
+    go false h = rw length-append (omega arith)

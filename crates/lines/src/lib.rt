@@ -45,6 +45,13 @@ pub fn add_field(page: &mut [u8], at: usize, n: u64) -> usize
     add_number(page, next, n)
 }
 
+// Adds a space and a number of 32 bits, such as answers are made of.
+pub fn add_count(page: &mut [u8], at: usize, count: u32) -> usize
+    ensures { λ r. ⌜ Added (space ∷ decimal count ∷ []) at r (now (page .entry)) (now (page .exit)) ⌝ }
+{
+    add_field(page, at, count as u64)
+}
+
 // Adds a byte in hexadecimal, two digits.
 fn add_hex(page: &mut [u8], at: usize, byte: u8) -> usize
     ensures { λ r. ⌜ Added (hexOf byte ∷ []) at r (now (page .entry)) (now (page .exit)) ⌝ }
@@ -67,7 +74,7 @@ fn add_hexes(page: &mut [u8], place: usize, bytes: &[u8]) -> usize
 }
 
 // Adds a space and the first n bytes in hexadecimal; nothing where there are none, or fewer.
-fn add_front(page: &mut [u8], at: usize, n: usize, bytes: &[u8]) -> usize
+pub fn add_front(page: &mut [u8], at: usize, n: usize, bytes: &[u8]) -> usize
     ensures { λ r. ⌜ Added (frontText n (now (bytes .entry))) at r (now (page .entry)) (now (page .exit)) ⌝ }
 {
     if n == 0 {

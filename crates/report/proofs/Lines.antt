@@ -1,19 +1,17 @@
 -- Lines that are added one after the other, and how long they are.
 -- Assumes nothing.
-use Prim.Native.Nat.{ℕ, zero, suc, _+_, _-_, _*_, _/_, _%_, _≤_, _<_}
+use Prim.Native.Nat.{ℕ, zero, suc, _+_, _-_, _*_, _≤_, _<_}
 use mathlib.Core.Path.{_≡_, refl, sym, ap, _∙_}
-use mathlib.Core.Bool.{Bool, true, false, cond}
-use mathlib.Core.List.{List, [], _∷_, _++_}
+use mathlib.Core.List.{List, [], _++_}
 use native.Mathlib.Omega.{arith}
-use lib.Dec.{ltb}
 use lib.ListN.{length, take, drop, getD, length-append}
 use lib.Seq.{drop-drop}
-use Rattle.io.specs.Digits.{glyph}
 use Rattle.slices.specs.Writing.{laid}
 use Rattle.slices.proofs.Tails.{tail-is}
 use Rattle.intake.specs.Feeding.{answerNumbers}
-use Rattle.lines.specs.Page.{Placed, addAll, Added, decimalFrom, decimal}
+use Rattle.lines.specs.Page.{Placed, addAll, Added, decimal}
 use Rattle.lines.proofs.Adding.{joined, all-append, all-with-room}
+use Rattle.lines.proofs.Decimal.{digits-few}
 use Rattle.report.specs.Report.{lineOf, linesOf}
 
 -- ---- one after the other
@@ -68,15 +66,6 @@ underway-last first entries answers page₀ page at from number left u h =
     }
 
 -- ---- how long
-
-digits-few : (k n : ℕ) → length (decimalFrom k n) ≤ suc k
-unfolding decimalFrom
-digits-few zero n = omega arith
-digits-few (suc k) n = go (ltb n 10) (digits-few k (n / 10))
-  where
-    go : (b : Bool) → length (decimalFrom k (n / 10)) ≤ suc k → length (cond b (glyph n ∷ []) (decimalFrom k (n / 10) ++ (glyph (n % 10) ∷ []))) ≤ suc (suc k)
-    go true h = omega arith
-    go false h = rw length-append (omega arith)
 
 lines-short : (number k : ℕ) (a : List ℕ) → length (joined (linesOf number k a)) ≤ 126 * k
 unfolding linesOf

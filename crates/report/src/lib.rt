@@ -1,21 +1,13 @@
 // Document 01's bench program but for its input: feeds the entries of a bench file to one fresh receiver, and prints a line for each.
 use feed::Window;
-ghost use mathlib.Core.List.{[], _∷_};
 ghost use Prim.Native.Nat.{_+_, _*_, _<_, _≤_};
 ghost use lib.ListN.{length};
 ghost use Rattle.intake.specs.Feeding.{answerNumbers};
-ghost use Rattle.lines.specs.Page.{Added, decimal};
-ghost use Rattle.lines.specs.Page.{space as gap};
+ghost use Rattle.lines.specs.Page.{Added};
 ghost use Rattle.report.specs.Report.{lineOf, linesOf};
 
 // A proved loop has to end, and nothing says that an input does: it stops at a number that no run reaches.
 const LAST: u64 = 0x4000_0000_0000_0000;
-
-fn add_count(page: &mut [u8], at: usize, count: u32) -> usize
-    ensures { λ r. ⌜ Added (gap ∷ decimal count ∷ []) at r (now (page .entry)) (now (page .exit)) ⌝ }
-{
-    lines::add_field(page, at, count as u64)
-}
 
 // Adds the line of an entry: its number, the refusal, the frames injected, ignored and cancelled, and the records.
 fn add_line(page: &mut [u8], place: usize, number: u64, answer: &[u32]) -> usize
@@ -23,11 +15,11 @@ fn add_line(page: &mut [u8], place: usize, number: u64, answer: &[u32]) -> usize
     ensures { λ r. ⌜ Added (lineOf number (now (answer .entry))) place r (now (page .entry)) (now (page .exit)) ⌝ }
 {
     let mut at = lines::add_number(page, place, number);
-    at = add_count(page, at, answer[0]);
-    at = add_count(page, at, answer[1]);
-    at = add_count(page, at, answer[2]);
-    at = add_count(page, at, answer[3]);
-    at = add_count(page, at, answer[5]);
+    at = lines::add_count(page, at, answer[0]);
+    at = lines::add_count(page, at, answer[1]);
+    at = lines::add_count(page, at, answer[2]);
+    at = lines::add_count(page, at, answer[3]);
+    at = lines::add_count(page, at, answer[5]);
     lines::add_byte(page, at, b'\n')
 }
 

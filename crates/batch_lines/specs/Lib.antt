@@ -1,0 +1,2 @@
+-- The lines of a batch.
+pub mod Lines

@@ -1,15 +1,8 @@
-/* call PASSES < FILE: what the receiver's call takes by itself, without reading and printing. Feeds a bench file from memory to a
- * fresh receiver, so many times over, and prints the user time of that in microseconds, and a checksum of all answers and records
- * that one further pass gives. Compiled with TWIN it calls the second receiver, and otherwise the product. */
-#include "entries.h"
-
-#include <inttypes.h>
-#include <stdio.h>
-#include <stdlib.h>
-#include <sys/resource.h>
+/* call PASSES < FILE: measures the receiver's call (measure.h), one message after the other. Compiled with TWIN it calls the second
+ * receiver, and otherwise the product. */
+#include "measure.h"
 
 #ifdef TWIN
-#include "twin.h"
 typedef struct twin any_receiver;
 typedef struct twin_answer any_answer;
 #define RECEIVE twin_receive
@@ -32,37 +25,21 @@ static void begin(any_receiver *receiver)
 }
 #endif
 
-enum { OUTPUT_BYTES = 49152, RECORD_BYTES = 21 };
+static uint8_t output[TWIN_OUTPUT_MOST];
 
-static uint8_t output[OUTPUT_BYTES];
-
-/* FNV-1a. */
-static uint64_t mix(uint64_t sum, uint64_t value, unsigned bytes)
+static uint64_t sum_up(struct entries entries)
 {
-	for (unsigned i = 0; i < bytes; i++)
-		sum = (sum ^ (value >> 8 * i & 0xFF)) * UINT64_C(0x100000001B3);
-	return sum;
-}
-
-static uint64_t checksum(struct entries entries)
-{
-	uint64_t sum = UINT64_C(0xCBF29CE484222325);
+	uint64_t sum = MEASURE_NOTHING;
 	const uint8_t *message;
 	any_receiver receiver;
 	size_t n;
 
 	begin(&receiver);
 	while (entries_next(&entries, &message, &n)) {
-		const any_answer answer = RECEIVE(&receiver, message, n, output, OUTPUT_BYTES);
+		const any_answer a = RECEIVE(&receiver, message, n, output, sizeof output);
+		const struct twin_answer answer = { a.refusal, a.injected, a.ignored, a.cancelled, TIME(a), a.records };
 
-		sum = mix(sum, answer.refusal, 1);
-		sum = mix(sum, answer.injected, 1);
-		sum = mix(sum, answer.ignored, 1);
-		sum = mix(sum, answer.cancelled, 1);
-		sum = mix(sum, TIME(answer), 4);
-		sum = mix(sum, answer.records, 8);
-		for (size_t i = 0; i < answer.records * RECORD_BYTES; i++)
-			sum = mix(sum, output[i], 1);
+		sum = measure_add(sum, &answer, output);
 	}
 	return sum;
 }
@@ -75,26 +52,10 @@ static void pass(struct entries entries)
 
 	begin(&receiver);
 	while (entries_next(&entries, &message, &n))
-		RECEIVE(&receiver, message, n, output, OUTPUT_BYTES);
-}
-
-static uint64_t user_microseconds(void)
-{
-	struct rusage usage;
-
-	getrusage(RUSAGE_SELF, &usage);
-	return (uint64_t)usage.ru_utime.tv_sec * 1000000 + (uint64_t)usage.ru_utime.tv_usec;
+		RECEIVE(&receiver, message, n, output, sizeof output);
 }
 
 int main(int argc, char **argv)
 {
-	const unsigned long passes = argc == 2 ? strtoul(argv[1], NULL, 10) : 1;
-	const struct entries entries = entries_load(stdin);
-	const uint64_t sum = checksum(entries), before = user_microseconds();
-
-	for (unsigned long i = 0; i < passes; i++)
-		pass(entries);
-	printf("%" PRIu64 " %016" PRIx64 "\n", user_microseconds() - before, sum);
-	free(entries.bytes);
-	return 0;
+	return measure(argc, argv, pass, sum_up);
 }

@@ -2,8 +2,7 @@
  * calls decide: the answers with the encode time, every byte of the output, and the receivers. Each message that writes is first
  * given too little room, then room enough. Ends with 1 at the first difference, after saying what it is. */
 #include "entries.h"
-#include "kangirlo.h"
-#include "twin.h"
+#include "same.h"
 
 #include <inttypes.h>
 #include <stdio.h>
@@ -31,12 +30,6 @@ struct pair {
 
 static union output output, twin_output, untouched;
 
-static void print_answer(const char *whose, const struct twin_answer *answer)
-{
-	printf("%s: refusal %u, injected %u, ignored %u, cancelled %u, time %" PRIu32 ", records %zu\n", whose, answer->refusal,
-	       answer->injected, answer->ignored, answer->cancelled, answer->time, answer->records);
-}
-
 static struct twin_answer plain(const struct kangirlo_answer *answer)
 {
 	return (struct twin_answer){ answer->refusal, answer->injected, answer->ignored, answer->cancelled, answer->time.value,
@@ -48,8 +41,8 @@ static void stop(const struct pair *pair, const char *what)
 	const struct twin_answer answer = plain(&pair->answer);
 
 	printf("entry %" PRIu64 " with %zu bytes of output: %s\n", pair->entry, pair->room, what);
-	print_answer("ours", &answer);
-	print_answer("twin", &pair->twin_answer);
+	same_print("ours", &answer);
+	same_print("twin", &pair->twin_answer);
 	fputs("message:", stdout);
 	for (size_t i = 0; i < pair->n; i++)
 		printf(" %02X", pair->message[i]);
@@ -61,14 +54,6 @@ static bool same_answer(const struct kangirlo_answer *ours, const struct twin_an
 {
 	return ours->refusal == twin->refusal && ours->injected == twin->injected && ours->ignored == twin->ignored &&
 	       ours->cancelled == twin->cancelled && ours->time.value == twin->time && ours->records == twin->records;
-}
-
-static bool same_receiver(const struct kangirlo_receiver *ours, const struct twin *twin)
-{
-	return !ours->ready == !twin->ready && !ours->begun == !twin->begun && !ours->ignoring == !twin->ignoring &&
-	       ours->settings.flags == twin->flags && ours->settings.version == twin->version && ours->settings.most == twin->most &&
-	       memcmp(ours->states, twin->state, sizeof ours->states) == 0 && memcmp(ours->xs, twin->x, sizeof ours->xs) == 0 &&
-	       memcmp(ours->ys, twin->y, sizeof ours->ys) == 0;
 }
 
 /* Whether the output is as it was, from a byte on. */

@@ -52,6 +52,56 @@ static void test_receiver(void)
 	EXPECT(answers(kangirlo_receive(&r, ready, 0, output, sizeof output), KANGIRLO_SHORT, 0, 0, 0));
 }
 
+/* Puts an entry behind those before: a message's length, and its bytes. Answers where the next goes. */
+static size_t put_entry(uint8_t *buffer, size_t at, const uint8_t *message, size_t length)
+{
+	buffer[at] = (uint8_t)(length >> 8);
+	buffer[at + 1] = (uint8_t)length;
+	memcpy(buffer + at + 2, message, length);
+	return at + 2 + length;
+}
+
+static int has(struct kangirlo_batch_answer a, uint32_t refusal, uint32_t injected, uint32_t cancelled, uint32_t time,
+               uint32_t records)
+{
+	return a.refusal == refusal && a.injected == injected && a.ignored == 0 && a.cancelled == cancelled && a.time == time
+	       && a.records == records;
+}
+
+/* Lends so many bytes of a buffer and so many numbers, and looks at the answer. */
+static int batches(struct kangirlo_receiver *r, const uint8_t *buffer, size_t length, struct kangirlo_batch_answer *a, size_t numbers,
+                   int refusal, size_t entries, size_t records)
+{
+	struct kangirlo_batch b = kangirlo_receive_all(r, buffer, length, a, numbers, output, sizeof output);
+
+	return b.refusal == refusal && b.entries == entries && b.records == records;
+}
+
+/* Ready, down, one that is short, the full one at 70 ms with an offset, and an update of another contact, which is cancelled. */
+static void test_batch(void)
+{
+	static const uint8_t other[] = {3, 0, 17, 0, 0, 0, 0, 1, 1, 0, 2, 0, 0x40, 0x64, 0x40, 0x32, 0x1A};
+	struct kangirlo_batch_answer a[6] = {[5] = {1, 2, 3, 4, 5, 6}};
+	struct kangirlo_receiver r = kangirlo_fresh();
+	uint8_t buffer[128];
+	size_t n = put_entry(buffer, 0, ready, sizeof ready);
+
+	n = put_entry(buffer, n, down, sizeof down);
+	n = put_entry(buffer, n, down, 5);
+	n = put_entry(buffer, n, full, sizeof full);
+	n = put_entry(buffer, n, other, sizeof other);
+	EXPECT(batches(&r, buffer, n - 1, a, KANGIRLO_BATCH_NUMBERS(6), KANGIRLO_BAD_BATCH, 0, 0));
+	EXPECT(batches(&r, buffer, n, a, KANGIRLO_BATCH_NUMBERS(5) - 1, KANGIRLO_BAD_BATCH, 0, 0));
+	EXPECT(r.ready == 0 && has(a[0], 0, 0, 0, 0, 0));
+	EXPECT(batches(&r, buffer, n, a, KANGIRLO_BATCH_NUMBERS(6), KANGIRLO_TAKEN, 5, 6));
+	EXPECT(has(a[0], KANGIRLO_TAKEN, 0, 0, 0, 0) && has(a[1], KANGIRLO_TAKEN, 1, 0, 0, 2) && has(a[2], KANGIRLO_SHORT, 0, 0, 0, 0));
+	EXPECT(has(a[3], KANGIRLO_TAKEN, 1, 0, 70, 2) && has(a[4], KANGIRLO_TAKEN, 0, 1, 0, 2));
+	EXPECT(a[5].refusal == 1 && a[5].injected == 2 && a[5].ignored == 3 && a[5].cancelled == 4 && a[5].time == 5);
+	EXPECT(record_at(1).id == 1 && record_at(3).id == 3 && record_at(4).kind == KANGIRLO_CANCEL && a[5].records == 6);
+	EXPECT(r.ready == 1 && r.begun == 1 && r.ignoring == 1 && r.states[1] == 0 && r.settings.most == 10);
+	EXPECT(batches(&r, buffer, 0, a, 0, KANGIRLO_TAKEN, 0, 0));
+}
+
 static void test_plain(void)
 {
 	struct kangirlo_plain_answer a = kangirlo_plain(full, sizeof full, output, sizeof output);
@@ -96,6 +146,7 @@ static void test_writers(void)
 int main(void)
 {
 	test_receiver();
+	test_batch();
 	test_plain();
 	test_writers();
 	return expect_end();

@@ -1,5 +1,6 @@
-/* A session host: 400 connections, each with a receiver of its own, whose messages come in turn. What a client sends is read from a
- * bench file (session i takes the file i modulo how many there are); each session's records go to a file of its own.
+/* A session host: 400 connections, each with a receiver of its own, whose messages come in turn, some at a time: each such burst is
+ * drained by one call. What a client sends is read from a bench file (session i takes the file i modulo how many there are); each
+ * session's records go to a file of its own.
  *
  *     host FOLDER FILE..          writes FOLDER/000.records to FOLDER/399.records */
 #include "kangirlo.h"
@@ -7,7 +8,7 @@
 #include <stdio.h>
 #include <stdlib.h>
 
-enum { SESSIONS = 400, LENGTH_BYTES = 2 };
+enum { SESSIONS = 400, LENGTH_BYTES = 2, BURST = 16 };
 
 struct file {
 	uint8_t *bytes;
@@ -29,8 +30,10 @@ struct totals {
 
 static struct session sessions[SESSIONS];
 
-/* One output serves all sessions: a call keeps nothing, and its records are written out before the next. */
-static uint8_t output[KANGIRLO_OUTPUT_MOST];
+/* One output and one list of answers serve all sessions: a call keeps nothing, and its records are written out before the next. The
+ * output is enough for any burst, so that no message is refused for want of room. */
+static uint8_t output[BURST * KANGIRLO_OUTPUT_MOST];
+static struct kangirlo_batch_answer answers[BURST];
 
 static void fail(const char *what)
 {
@@ -76,26 +79,41 @@ static void open_sessions(const char *folder, const struct file *files, size_t c
 	}
 }
 
-/* Takes a session's next message, and answers 0 where there is no whole one. */
-static int take_message(struct session *session, struct totals *totals)
+/* How many bytes a session's next entries have: the whole ones, as many as a burst may be. */
+static size_t burst_bytes(const struct session *session)
 {
-	const uint8_t *entry = session->file->bytes + session->at;
-	size_t left = session->file->length - session->at, length;
-	struct kangirlo_answer answer;
+	const uint8_t *bytes = session->file->bytes + session->at;
+	size_t left = session->file->length - session->at, end = 0;
 
-	if (left < LENGTH_BYTES)
-		return 0;
-	length = (size_t)entry[0] << 8 | entry[1];
-	if (left - LENGTH_BYTES < length)
-		return 0;
-	answer = kangirlo_receive(&session->receiver, entry + LENGTH_BYTES, length, output, sizeof output);
-	if (fwrite(output, KANGIRLO_RECORD_BYTES, answer.records, session->records) != answer.records)
+	for (int i = 0; i < BURST && left - end >= LENGTH_BYTES; i++) {
+		size_t length = (size_t)bytes[end] << 8 | bytes[end + 1];
+
+		if (left - end - LENGTH_BYTES < length)
+			break;
+		end += LENGTH_BYTES + length;
+	}
+	return end;
+}
+
+/* Takes a session's next messages, and answers 0 where there is none. */
+static int take_burst(struct session *session, struct totals *totals)
+{
+	size_t bytes = burst_bytes(session);
+	struct kangirlo_batch batch = kangirlo_receive_all(&session->receiver, session->file->bytes + session->at, bytes, answers,
+	                                                   KANGIRLO_BATCH_NUMBERS(BURST), output, sizeof output);
+
+	if (batch.refusal != KANGIRLO_TAKEN) {
+		fprintf(stderr, "a batch is refused: %d\n", batch.refusal);
+		exit(1);
+	}
+	if (fwrite(output, KANGIRLO_RECORD_BYTES, batch.records, session->records) != batch.records)
 		fail("records");
-	session->at += LENGTH_BYTES + length;
-	totals->messages++;
-	totals->refused += answer.refusal != KANGIRLO_TAKEN;
-	totals->records += answer.records;
-	return 1;
+	session->at += bytes;
+	totals->messages += batch.entries;
+	totals->records += batch.records;
+	for (size_t i = 0; i < batch.entries; i++)
+		totals->refused += answers[i].refusal != KANGIRLO_TAKEN;
+	return batch.entries > 0;
 }
 
 int main(int count, char **words)
@@ -117,7 +135,7 @@ int main(int count, char **words)
 	while (taken) {
 		taken = 0;
 		for (size_t i = 0; i < SESSIONS; i++)
-			taken |= take_message(&sessions[i], &totals);
+			taken |= take_burst(&sessions[i], &totals);
 	}
 	for (size_t i = 0; i < SESSIONS; i++)
 		if (fclose(sessions[i].records) != 0)

@@ -5,11 +5,16 @@
 #include "kangirlo.h"
 #include "painted.h"
 
+#include <string.h>
+
 /* What a call is lent. */
 static struct {
 	struct kangirlo_receiver receiver;
+	struct kangirlo_receiver batched;
 	const uint8_t *message;
 	size_t length;
+	uint8_t entry[2 + UINT16_MAX];
+	struct kangirlo_batch_answer answer;
 	uint8_t output[KANGIRLO_OUTPUT_MOST];
 	uint8_t written[KANGIRLO_MESSAGE_MOST];
 	size_t records;
@@ -20,12 +25,22 @@ static void fresh(void)
 {
 	PAINTED_MARK();
 	lent.receiver = kangirlo_fresh();
+	lent.batched = lent.receiver;
 }
 
 static void receive(void)
 {
 	PAINTED_MARK();
 	lent.records = kangirlo_receive(&lent.receiver, lent.message, lent.length, lent.output, sizeof lent.output).records;
+}
+
+/* The message as a batch of one, with a receiver of its own. Two of the arguments go on the stack, and are counted. */
+static void receive_all(void)
+{
+	PAINTED_MARK();
+	lent.records = kangirlo_receive_all(&lent.batched, lent.entry, 2 + lent.length, &lent.answer, KANGIRLO_BATCH_NUMBERS(1), lent.output,
+	                                    sizeof lent.output)
+	                       .records;
 }
 
 static void plain(void)
@@ -84,6 +99,7 @@ static void write_dismiss(void)
 static struct painted_call calls[] = {
 	{"kangirlo_fresh", fresh, 0},
 	{"kangirlo_receive", receive, 0},
+	{"kangirlo_receive_all", receive_all, 0},
 	{"kangirlo_plain", plain, 0},
 	{"kangirlo_write_touch", write_touch, 0},
 	{"kangirlo_read_record", read_records, 0},
@@ -101,6 +117,9 @@ static void measure_message(const uint8_t *message, size_t length)
 {
 	lent.message = message;
 	lent.length = length;
+	lent.entry[0] = (uint8_t)(length >> 8);
+	lent.entry[1] = (uint8_t)length;
+	memcpy(lent.entry + 2, message, length);
 	for (size_t i = 1; i < CALLS; i++)
 		painted_measure(&calls[i]);
 }

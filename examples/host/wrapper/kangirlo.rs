@@ -2,8 +2,10 @@
 //! Slices are never null and do not overlap where one of them is `&mut`, which is all that the header asks.
 //! It has both ends, and links both archives: libkangirlo_panel.a for [`Panel`], libkangirlo.a for all else.
 
+mod batch;
 mod panel;
 
+pub use batch::{Batch, BatchAnswer};
 pub use panel::Panel;
 use std::mem::size_of;
 
@@ -42,6 +44,7 @@ impl Refusal {
     pub const NOT_READY: Self = Self(15);
     pub const SUSPENDED: Self = Self(16);
     pub const ILLEGAL: Self = Self(17);
+    pub const BAD_BATCH: Self = Self(18);
 
     pub fn number(self) -> u8 {
         self.0
@@ -300,7 +303,7 @@ pub fn write_dismiss(output: &mut [u8], id: u8) -> Result<usize, Refusal> {
 
 /// The header, declared again.
 mod c {
-    use super::{Microseconds, Milliseconds, Panel, Receiver, size_of};
+    use super::{BatchAnswer, Microseconds, Milliseconds, Panel, Receiver, size_of};
 
     #[repr(C)]
     pub struct Answer {
@@ -309,6 +312,13 @@ mod c {
         pub ignored: u8,
         pub cancelled: u8,
         pub time: Milliseconds,
+        pub records: usize,
+    }
+
+    #[repr(C)]
+    pub struct Batch {
+        pub refusal: u8,
+        pub entries: usize,
         pub records: usize,
     }
 
@@ -345,6 +355,7 @@ mod c {
     }
 
     const _: () = assert!(size_of::<Answer>() == 16 && size_of::<PlainAnswer>() == 16);
+    const _: () = assert!(size_of::<Batch>() == 24);
     const _: () = assert!(size_of::<Written>() == 16 && size_of::<Record>() == 40);
 
     unsafe extern "C" {
@@ -356,6 +367,15 @@ mod c {
             output: *mut u8,
             room: usize,
         ) -> Answer;
+        pub fn kangirlo_receive_all(
+            receiver: *mut Receiver,
+            buffer: *const u8,
+            buffer_length: usize,
+            answers: *mut BatchAnswer,
+            numbers: usize,
+            output: *mut u8,
+            output_length: usize,
+        ) -> Batch;
         pub fn kangirlo_plain(
             message: *const u8,
             length: usize,

@@ -1,0 +1,25 @@
+#include "same.h"
+
+#include <inttypes.h>
+#include <stdio.h>
+#include <string.h>
+
+bool same_receiver(const struct kangirlo_receiver *ours, const struct twin *twin)
+{
+	return !ours->ready == !twin->ready && !ours->begun == !twin->begun && !ours->ignoring == !twin->ignoring &&
+	       ours->settings.flags == twin->flags && ours->settings.version == twin->version && ours->settings.most == twin->most &&
+	       memcmp(ours->states, twin->state, sizeof ours->states) == 0 && memcmp(ours->xs, twin->x, sizeof ours->xs) == 0 &&
+	       memcmp(ours->ys, twin->y, sizeof ours->ys) == 0;
+}
+
+struct twin_answer same_form(const struct kangirlo_batch_answer *answer)
+{
+	return (struct twin_answer){ (uint8_t)answer->refusal, (uint8_t)answer->injected, (uint8_t)answer->ignored,
+		                     (uint8_t)answer->cancelled, answer->time, answer->records };
+}
+
+void same_print(const char *whose, const struct twin_answer *answer)
+{
+	printf("%s: refusal %u, injected %u, ignored %u, cancelled %u, time %" PRIu32 ", records %zu\n", whose, answer->refusal,
+	       answer->injected, answer->ignored, answer->cancelled, answer->time, answer->records);
+}

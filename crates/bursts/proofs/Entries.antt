@@ -114,9 +114,16 @@ append-from (suc k) l t h w =
 pub messages-append : (l t : List ℕ) → complete l ≡ true → messagesIn (l ++ t) ≡ messagesIn l ++ messagesIn t
 messages-append l t h = append-from (length l) l t (omega arith) (complete-bytes l h)
 
--- .. and the second ends with one where both do
+-- and their bytes those of both
+both-bytes : (l t : List ℕ) → complete l ≡ true → bytesOf (messagesIn (l ++ t)) ≡ length l + bytesOf (messagesIn t)
+both-bytes l t h = omega (arith, ap bytesOf (messages-append l t h) ∙ bytes-append (messagesIn l) (messagesIn t), complete-bytes l h)
+
+-- so the second ends with an entry where both do ..
 pub complete-rest : (l t : List ℕ) → complete l ≡ true → complete (l ++ t) ≡ true → complete t ≡ true
 unfolding complete
-complete-rest l t h w =
-    let b = ap bytesOf (messages-append l t h) ∙ bytes-append (messagesIn l) (messagesIn t) in
-    eq-eqb (bytesOf (messagesIn t)) (length t) (omega (arith, b, complete-bytes l h, complete-bytes (l ++ t) w, length-append l t))
+complete-rest l t h w = eq-eqb (bytesOf (messagesIn t)) (length t) (omega (arith, both-bytes l t h, complete-bytes (l ++ t) w, length-append l t))
+
+-- .. and both where the second does
+pub complete-both : (l t : List ℕ) → complete l ≡ true → complete t ≡ true → complete (l ++ t) ≡ true
+unfolding complete
+complete-both l t h w = eq-eqb (bytesOf (messagesIn (l ++ t))) (length (l ++ t)) (omega (arith, both-bytes l t h, complete-bytes t w, length-append l t))

@@ -40,11 +40,10 @@ placesLeft c = drop (answerNumbers * c .batch .entries) (c .answers)
 unfoldable pub outputLeft : BatchCall → List ℕ
 outputLeft c = drop (recordBytes * c .batch .records) (c .after)
 
--- the call b, accepted; c is given the first part of its buffer, which ends with an entry, and d the second, with the receiver, the places and
--- the output that c left
+-- the buffer of the call b is cut between two entries: c is given the first part, and d the second, with the receiver, the places and the output
+-- that c left
 pub record InTwo (r : Receiver) (b c d : BatchCall) : Type 0 where
   pub one : AllowedAll r b
-  pub accepted : b .batch .refusal ≡ none
   pub first : AllowedAll r c
   pub second : AllowedAll (c .receiver) d
   pub buffer : b .buffer ≡ c .buffer ++ d .buffer
@@ -56,10 +55,14 @@ pub record InTwo (r : Receiver) (b c d : BatchCall) : Type 0 where
 
 -- the two come to the same as the one
 pub record SameInTwo (b c d : BatchCall) : Type 0 where
-  pub first : c .batch .refusal ≡ none
-  pub second : d .batch .refusal ≡ none
   pub receiver : d .receiver ≡ b .receiver
   pub entries : c .batch .entries + d .batch .entries ≡ b .batch .entries
   pub records : c .batch .records + d .batch .records ≡ b .batch .records
   pub answers : answersOf c ++ d .answers ≡ b .answers
   pub output : recordsOf c ++ d .after ≡ b .after
+
+-- the one is accepted where both of the two are
+pub record AsTwo (b c d : BatchCall) : Type 0 where
+  pub accepted : b .batch .refusal ≡ none → (c .batch .refusal ≡ none) × (d .batch .refusal ≡ none)
+  pub joined : c .batch .refusal ≡ none → d .batch .refusal ≡ none → b .batch .refusal ≡ none
+  pub same : b .batch .refusal ≡ none → SameInTwo b c d

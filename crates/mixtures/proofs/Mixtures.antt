@@ -15,7 +15,7 @@ use Rattle.intake.specs.Feeding.{numbersOf}
 use Rattle.demands.specs.Histories.{Call, Calls, last, recordsLeft, allLeft, NothingUntilAnOpeningFrame, AsRestedFromAnOpeningFrame, AtRest}
 use Rattle.demands.proofs.Histories.{every-history}
 use Rattle.mixtures.specs.Singly.{allAnswers}
-use Rattle.mixtures.specs.Mixtures.{Either, receiverOf, Mixed, lastOf, messagesFed, answersGiven, recordsWritten, SameAs, Mixture, LegalPathIn, AsHistory, EveryMixture}
+use Rattle.mixtures.specs.Mixtures.{Either, receiverOf, Mixed, lastOf, messagesFed, answersGiven, recordsWritten, SameAs, InSingleCalls, Mixture, LegalPathIn, AsHistory, EveryMixture}
 use Rattle.mixtures.proofs.Making.{Alike, singles}
 
 -- ---- single calls after single calls
@@ -42,10 +42,6 @@ left-append (c ∷ h) k = ap (λ (l : List ℕ). recordsLeft c ++ l) (left-appen
 
 -- ---- the single calls of a mixture
 
-record Together (r : Receiver) (es : List Either) : Type 0 where
-  calls : List Call
-  same : SameAs r es calls
-
 joined : (r : Receiver) (e : Either) (es : List Either) (h k : List Call) → Alike r e h → SameAs (receiverOf e) es k → SameAs r (e ∷ es) (h ++ k)
 unfolding lastOf messagesFed answersGiven recordsWritten
 joined r e es h k a s =
@@ -57,12 +53,12 @@ joined r e es h k a s =
       records = left-append h k ∙ (λ i. a .records i ++ s .records i);
     }
 
-together : (r : Receiver) (es : List Either) → Mixed r es → Together r es
+pub a-mixture-is-single-calls : (r : Receiver) (es : List Either) → Mixed r es → InSingleCalls r es
 unfolding Mixed Calls last allAnswers allLeft lastOf messagesFed answersGiven recordsWritten
-together r [] k = record { calls = []; same = record { calls = tt; messages = refl; receiver = refl; answers = refl; records = refl } }
-together r (e ∷ es) k =
+a-mixture-is-single-calls r [] k = record { calls = []; same = record { calls = tt; messages = refl; receiver = refl; answers = refl; records = refl } }
+a-mixture-is-single-calls r (e ∷ es) k =
     let a = singles r e (k .0) in
-    let s = together (receiverOf e) es (k .1) in
+    let s = a-mixture-is-single-calls (receiverOf e) es (k .1) in
     record { calls = a .calls ++ s .calls; same = joined r e es (a .calls) (s .calls) (a .alike) (s .same) }
 
 calls-bytes : (h : List Call) → All Bytes (map (λ (c : Call). c .message) h) → All (λ c. Bytes (c .message)) h
@@ -71,7 +67,7 @@ calls-bytes (c ∷ h) b = (b .0, calls-bytes h (b .1))
 
 pub a-mixture-is-a-history : (es : List Either) → Mixture es → AsHistory es
 a-mixture-is-a-history es m =
-    let t = together fresh es (m .calls) in
+    let t = a-mixture-is-single-calls fresh es (m .calls) in
     record {
       calls = t .calls;
       history = record { calls = t .same .calls; bytes = calls-bytes (t .calls) (subst (All Bytes) (sym (t .same .messages)) (m .bytes)) };
@@ -90,6 +86,7 @@ legal-path es m id l =
 pub every-mixture : EveryMixture
 every-mixture =
     record {
+      following = a-mixture-is-single-calls;
       history = a-mixture-is-a-history;
       legal = legal-path;
       silent = λ es m. let h = a-mixture-is-a-history es m in subst NothingUntilAnOpeningFrame (h .same .receiver) (every-history .silent (h .calls) (h .history));

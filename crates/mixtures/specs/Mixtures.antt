@@ -78,6 +78,10 @@ pub record SameAs (r : Receiver) (es : List Either) (h : List Call) : Type 0 whe
   pub answers : allAnswers h ≡ answersGiven es
   pub records : allLeft h ≡ recordsWritten es
 
+pub record InSingleCalls (r : Receiver) (es : List Either) : Type 0 where
+  pub calls : List Call
+  pub same : SameAs r es calls
+
 -- ---- THE DEMAND
 
 -- a fresh receiver's mixture, whose messages are lists of bytes
@@ -89,14 +93,16 @@ pub record Mixture (es : List Either) : Type 0 where
 abbrev pub LegalPathIn : List Either → ℕ → Type 0
 LegalPathIn es id = let t : Table = tableOf (lastOf fresh es) in path id (recordsIn (recordsWritten es)) out origin ≡ at (stateAt t id) (placeAt t id)
 
--- there is a history of single calls that comes to the same
+-- a history of single calls that comes to the same
 pub record AsHistory (es : List Either) : Type 0 where
   pub calls : List Call
   pub history : History calls
   pub same : SameAs fresh es calls
 
--- and after a mixture all is as after any history
+-- A mixture is a history: from a fresh receiver, and what follows from any receiver on. So what demand 3 says of the calls of a history it says of
+-- the messages of a mixture, one by one; and after a mixture all is as after a history.
 pub record EveryMixture : Type 0 where
+  pub following : (r : Receiver) (es : List Either) → Mixed r es → InSingleCalls r es
   pub history : (es : List Either) → Mixture es → AsHistory es
   pub legal : (es : List Either) → Mixture es → (id : ℕ) → id < contacts → LegalPathIn es id
   pub silent : (es : List Either) → Mixture es → NothingUntilAnOpeningFrame (lastOf fresh es)

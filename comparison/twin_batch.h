@@ -1,5 +1,4 @@
-/* Many messages in one call, of the twin: written from the paper with the later requests (cited as 02), "Many messages in one call",
- * though not without sight of the product's. */
+/* Many messages in one call, of the twin: written from the paper with the later requests (cited as 02), "Many messages in one call". */
 #ifndef TWIN_BATCH_H
 #define TWIN_BATCH_H
 

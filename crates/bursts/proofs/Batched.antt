@@ -8,7 +8,7 @@ use native.Mathlib.Omega.{arith}
 use borrow.Author.Tests.{leb-true, le-leb, eq-eqb, ne-eqb}
 use lib.Dec.{leb}
 use lib.ListN.{length}
-use Rattle.intake.specs.Feeding.{bytesOf, answerNumbers}
+use Rattle.intake.specs.Feeding.{entryBytes, answerNumbers}
 use Rattle.bursts.specs.Batch.{messagesIn, complete, batched}
 
 pub not-both : (b : Bool) → b ≡ true → b ≡ false → ⊥
@@ -28,11 +28,11 @@ batched-both l numbers h = go (complete l) refl h
     go false e w = absurd (not-both false w refl)
 
 -- the code judges one after the other
-pub batched-not : (l : List ℕ) (numbers : ℕ) → (bytesOf (messagesIn l) ≡ length l → ⊥) → batched l numbers ≡ false
+pub batched-not : (l : List ℕ) (numbers : ℕ) → (entryBytes (messagesIn l) ≡ length l → ⊥) → batched l numbers ≡ false
 unfolding batched complete
 batched-not l numbers h = rw (ne-eqb _ _ h)
 
-pub batched-if : (l : List ℕ) (numbers : ℕ) → bytesOf (messagesIn l) ≡ length l → batched l numbers ≡ leb (length (messagesIn l)) (numbers / answerNumbers)
+pub batched-if : (l : List ℕ) (numbers : ℕ) → entryBytes (messagesIn l) ≡ length l → batched l numbers ≡ leb (length (messagesIn l)) (numbers / answerNumbers)
 unfolding batched complete
 batched-if l numbers h = rw (eq-eqb _ _ h)
 

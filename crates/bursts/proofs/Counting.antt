@@ -12,7 +12,7 @@ use Rattle.entries.specs.Entries.{frontOf}
 use Rattle.entries.specs.declared.Front.{Front}
 use Rattle.entries.specs.declared.Front.the-variants as Front
 use Rattle.entries.proofs.Laws.{front-inside}
-use Rattle.intake.specs.Feeding.{bytesOf}
+use Rattle.intake.specs.Feeding.{entryBytes}
 use Rattle.bursts.specs.Batch.{messagesIn}
 use Rattle.bursts.proofs.Entries.{messages-end, messages-empty, behind}
 
@@ -21,24 +21,24 @@ pub record Counts (l : List ℕ) (k n : ℕ) : Type 0 where
   pub inside : n ≤ length l
   pub few : k ≤ n
   pub entries : k + length (messagesIn (drop n l)) ≡ length (messagesIn l)
-  pub bytes : n + bytesOf (messagesIn (drop n l)) ≡ bytesOf (messagesIn l)
+  pub bytes : n + entryBytes (messagesIn (drop n l)) ≡ entryBytes (messagesIn l)
 
 pub counts-first : (l : List ℕ) → Counts l 0 0
 counts-first l = record { inside = omega arith; few = omega arith; entries = omega arith; bytes = omega arith }
 
 module _ (l : List ℕ) (k n : ℕ) (c : Counts l k n) where
   -- nothing is to come
-  ended : messagesIn (drop n l) ≡ [] → (k ≡ length (messagesIn l)) × (n ≡ bytesOf (messagesIn l))
-  unfolding bytesOf
-  ended e = (omega (arith, c .entries, ap length e), omega (arith, c .bytes, ap bytesOf e))
+  ended : messagesIn (drop n l) ≡ [] → (k ≡ length (messagesIn l)) × (n ≡ entryBytes (messagesIn l))
+  unfolding entryBytes
+  ended e = (omega (arith, c .entries, ap length e), omega (arith, c .bytes, ap entryBytes e))
 
-  pub counts-last : length l ≤ n → (k ≡ length (messagesIn l)) × (n ≡ bytesOf (messagesIn l))
+  pub counts-last : length l ≤ n → (k ≡ length (messagesIn l)) × (n ≡ entryBytes (messagesIn l))
   counts-last h = ended (messages-empty (drop n l) (omega (arith, h, length-drop n l)))
 
   at-rest : (f : Front) → frontOf (midOf n (length l - n) l) ≡ f → frontOf (drop n l) ≡ f
   at-rest f e = ap frontOf (sym (tail-is l n)) ∙ e
 
-  pub counts-stop : frontOf (midOf n (length l - n) l) ≡ Front.Part → (k ≡ length (messagesIn l)) × (n ≡ bytesOf (messagesIn l))
+  pub counts-stop : frontOf (midOf n (length l - n) l) ≡ Front.Part → (k ≡ length (messagesIn l)) × (n ≡ entryBytes (messagesIn l))
   counts-stop e = ended (messages-end (drop n l) (at-rest Front.Part e))
 
   -- an entry at the front, of a message of m bytes
@@ -55,5 +55,5 @@ module _ (l : List ℕ) (k n : ℕ) (c : Counts l k n) where
           inside = found-inside;
           few = omega (arith, c .few);
           entries = omega (arith, c .entries, b .entries, ap (λ (t : List ℕ). length (messagesIn t)) d);
-          bytes = omega (arith, c .bytes, b .bytes, ap (λ (t : List ℕ). bytesOf (messagesIn t)) d);
+          bytes = omega (arith, c .bytes, b .bytes, ap (λ (t : List ℕ). entryBytes (messagesIn t)) d);
         }

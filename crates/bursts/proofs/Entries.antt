@@ -12,8 +12,8 @@ use Rattle.entries.specs.Entries.{frontOf}
 use Rattle.entries.specs.declared.Front.{Front}
 use Rattle.entries.specs.declared.Front.the-variants as Front
 use Rattle.entries.proofs.Laws.{front-inside, front-append}
-use Rattle.intake.specs.Feeding.{bytesOf}
-use Rattle.intake.proofs.Taking.{message-long}
+use Rattle.intake.specs.Feeding.{entryBytes}
+use Rattle.intake.proofs.Taking.{entry-message-long}
 use Rattle.bursts.specs.Batch.{messagesAt, messagesIn, complete}
 
 -- ---- the entry at the front
@@ -68,25 +68,25 @@ messages-more l n e =
 -- how many they are, and their bytes
 pub record Behind (l : List ℕ) (n : ℕ) : Type 0 where
   pub entries : length (messagesIn l) ≡ suc (length (messagesIn (drop (n + 2) l)))
-  pub bytes : bytesOf (messagesIn l) ≡ 2 + n + bytesOf (messagesIn (drop (n + 2) l))
+  pub bytes : entryBytes (messagesIn l) ≡ 2 + n + entryBytes (messagesIn (drop (n + 2) l))
 
 pub behind : (l : List ℕ) (n : ℕ) → frontOf l ≡ Front.Entry n → Behind l n
-unfolding bytesOf
+unfolding entryBytes
 behind l n e =
     let m = messages-more l n e in
-    let b = ap bytesOf m in
-    record { entries = ap length m; bytes = omega (arith, b, message-long l n (front-inside l n e)) }
+    let b = ap entryBytes m in
+    record { entries = ap length m; bytes = omega (arith, b, entry-message-long l n (front-inside l n e)) }
 
 -- ---- the last entry is complete
 
-pub complete-bytes : (l : List ℕ) → complete l ≡ true → bytesOf (messagesIn l) ≡ length l
+pub complete-bytes : (l : List ℕ) → complete l ≡ true → entryBytes (messagesIn l) ≡ length l
 unfolding complete
 complete-bytes l h = eqb-true _ _ h
 
 -- ---- two buffers, one after the other
 
-bytes-append : (ms ns : List (List ℕ)) → bytesOf (ms ++ ns) ≡ bytesOf ms + bytesOf ns
-unfolding bytesOf
+bytes-append : (ms ns : List (List ℕ)) → entryBytes (ms ++ ns) ≡ entryBytes ms + entryBytes ns
+unfolding entryBytes
 bytes-append [] ns = omega arith
 bytes-append (m ∷ ms) ns = omega (arith, bytes-append ms ns)
 
@@ -95,11 +95,11 @@ unfolding messagesAt
 append-none [] t h = refl
 append-none (x ∷ l) t h = absurd (omega (arith, h))
 
-append-from : (k : ℕ) (l t : List ℕ) → length l ≤ k → bytesOf (messagesIn l) ≡ length l → messagesIn (l ++ t) ≡ messagesIn l ++ messagesIn t
-unfolding bytesOf
+append-from : (k : ℕ) (l t : List ℕ) → length l ≤ k → entryBytes (messagesIn l) ≡ length l → messagesIn (l ++ t) ≡ messagesIn l ++ messagesIn t
+unfolding entryBytes
 append-from zero l t h w = append-none l t h
 append-from (suc k) l t h w =
-    in-front l (λ e. append-none l t (omega (arith, w, ap bytesOf (messages-end l e)))) λ n e.
+    in-front l (λ e. append-none l t (omega (arith, w, ap entryBytes (messages-end l e)))) λ n e.
     let i = front-inside l n e in
     let d = length-drop (n + 2) l in
     let rest = append-from k (drop (n + 2) l) t (omega (arith, h, i, d)) (omega (arith, w, behind l n e .bytes, i, d)) in
@@ -115,15 +115,15 @@ pub messages-append : (l t : List ℕ) → complete l ≡ true → messagesIn (l
 messages-append l t h = append-from (length l) l t (omega arith) (complete-bytes l h)
 
 -- and their bytes those of both
-both-bytes : (l t : List ℕ) → complete l ≡ true → bytesOf (messagesIn (l ++ t)) ≡ length l + bytesOf (messagesIn t)
-both-bytes l t h = omega (arith, ap bytesOf (messages-append l t h) ∙ bytes-append (messagesIn l) (messagesIn t), complete-bytes l h)
+both-bytes : (l t : List ℕ) → complete l ≡ true → entryBytes (messagesIn (l ++ t)) ≡ length l + entryBytes (messagesIn t)
+both-bytes l t h = omega (arith, ap entryBytes (messages-append l t h) ∙ bytes-append (messagesIn l) (messagesIn t), complete-bytes l h)
 
 -- so the second ends with an entry where both do ..
 pub complete-rest : (l t : List ℕ) → complete l ≡ true → complete (l ++ t) ≡ true → complete t ≡ true
 unfolding complete
-complete-rest l t h w = eq-eqb (bytesOf (messagesIn t)) (length t) (omega (arith, both-bytes l t h, complete-bytes (l ++ t) w, length-append l t))
+complete-rest l t h w = eq-eqb (entryBytes (messagesIn t)) (length t) (omega (arith, both-bytes l t h, complete-bytes (l ++ t) w, length-append l t))
 
 -- .. and both where the second does
 pub complete-both : (l t : List ℕ) → complete l ≡ true → complete t ≡ true → complete (l ++ t) ≡ true
 unfolding complete
-complete-both l t h w = eq-eqb (bytesOf (messagesIn (l ++ t))) (length (l ++ t)) (omega (arith, both-bytes l t h, complete-bytes t w, length-append l t))
+complete-both l t h w = eq-eqb (entryBytes (messagesIn (l ++ t))) (length (l ++ t)) (omega (arith, both-bytes l t h, complete-bytes t w, length-append l t))

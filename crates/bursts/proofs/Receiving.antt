@@ -9,7 +9,7 @@ use Rattle.paper.specs.Refusals.{none, badBatch}
 use Rattle.receiver.specs.History.{Sent}
 use Rattle.receiver.specs.declared.Receiver.{Receiver}
 use Rattle.intake.specs.declared.Fed.{Fed}
-use Rattle.intake.specs.Feeding.{bytesOf, Feeds, TakesEntries}
+use Rattle.intake.specs.Feeding.{entryBytes, Feeds, TakesEntries}
 use Rattle.bursts.specs.Batch.{messagesIn, batched, singly, ReceivesAll}
 use Rattle.bursts.proofs.Entries.{complete-bytes}
 use Rattle.bursts.proofs.Batched.{not-both, batched-both}
@@ -29,7 +29,7 @@ receives-all r buffer f a₀ a o₀ o h t =
     let b = batched-both buffer (length a₀) h in
     let hs : List Sent = singly r (messagesIn buffer) (length o₀) in
     let fed : Feeds r hs f a₀ a o₀ o = rw (fed-singly _ r buffer (length o₀) (b .places)) at (t .fed) in
-    let used : bytesOf (messagesIn buffer) ≡ length buffer = complete-bytes buffer (b .ends) in
+    let used : entryBytes (messagesIn buffer) ≡ length buffer = complete-bytes buffer (b .ends) in
     record {
       fed = λ _.
           record {
@@ -37,7 +37,7 @@ receives-all r buffer f a₀ a o₀ o h t =
             fed = record {
               receiver = fed .receiver;
               entries = fed .entries;
-              used = sym (ap bytesOf (singly-messages r (messagesIn buffer) (length o₀)) ∙ used);
+              used = sym (ap entryBytes (singly-messages r (messagesIn buffer) (length o₀)) ∙ used);
               records = fed .records;
               answers = fed .answers;
               output = fed .output;

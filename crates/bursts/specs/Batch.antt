@@ -11,7 +11,7 @@ use Rattle.entries.specs.declared.Front.{Front}
 use Rattle.entries.specs.declared.Front.the-variants as Front
 use Rattle.receiver.specs.History.{Sent, next, wrote}
 use Rattle.receiver.specs.declared.Receiver.{Receiver}
-use Rattle.intake.specs.Feeding.{bytesOf, answerNumbers, Feeds}
+use Rattle.intake.specs.Feeding.{entryBytes, answerNumbers, Feeds}
 use Rattle.bursts.specs.declared.Batch.{Batch}
 
 -- ---- "a buffer of bench-file entries"
@@ -31,7 +31,7 @@ messagesIn l = messagesAt (length l) l
 
 -- the last entry is complete: the whole entries are all that there is
 unfoldable pub complete : List ℕ → Bool
-complete l = eqb (bytesOf (messagesIn l)) (length l)
+complete l = eqb (entryBytes (messagesIn l)) (length l)
 
 -- "18 BadBatch, before anything is fed, if the last entry is incomplete or the answer list is too short"
 unfoldable pub batched : List ℕ → ℕ → Bool

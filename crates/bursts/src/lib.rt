@@ -3,7 +3,7 @@ use entries::Front;
 use receiver::Receiver;
 ghost use mathlib.Core.Path.{_≡_};
 ghost use lib.ListN.{length};
-ghost use Rattle.intake.specs.Feeding.{bytesOf};
+ghost use Rattle.intake.specs.Feeding.{entryBytes};
 ghost use Rattle.bursts.specs.Batch.{messagesIn, batched, ReceivesAll};
 
 // What becomes of a batch: a refusal's number, 0 for none; how many entries were fed, and how many records they wrote.
@@ -27,7 +27,7 @@ pub(crate) struct Counted {
 }
 
 fn count_entries(buffer: &[u8]) -> Counted
-    ensures { λ r. ⌜ (r .entries ≡ length (messagesIn (now (buffer .entry)))) × (r .bytes ≡ bytesOf (messagesIn (now (buffer .entry)))) ⌝ }
+    ensures { λ r. ⌜ (r .entries ≡ length (messagesIn (now (buffer .entry)))) × (r .bytes ≡ entryBytes (messagesIn (now (buffer .entry)))) ⌝ }
 {
     let mut entries: usize = 0;
     let mut bytes: usize = 0;

@@ -27,7 +27,7 @@ use Rattle.receiver.specs.declared.Answer.{Answer}
 use Rattle.receiver.proofs.Histories.{a-step-of-the-contract-is-a-step-of-a-history}
 use Rattle.receiver.proofs.Records.{records-written, wrote-room, wrote-small, next-long}
 use Rattle.intake.specs.declared.Fed.{Fed}
-use Rattle.intake.specs.Feeding.{nextIn, sentFrom, withEntry, fedFrom, bytesOf, answerNumbers, numbersOf, answersTo, Feeds, TakesEntries}
+use Rattle.intake.specs.Feeding.{nextIn, sentFrom, withEntry, fedFrom, entryBytes, answerNumbers, numbersOf, answersTo, Feeds, TakesEntries}
 
 -- ---- the entry at the front
 
@@ -52,8 +52,8 @@ next-room least file room n e = go (leb least room) refl e
 next-inside : (least : ℕ) (file : List ℕ) (room n : ℕ) → nextIn least file room ≡ Front.Entry n → 2 + n ≤ length file
 next-inside least file room n e = front-inside file n (next-front least file room n e)
 
-pub message-long : (file : List ℕ) (n : ℕ) → 2 + n ≤ length file → length (take n (drop 2 file)) ≡ n
-message-long file n h = length-take-le n (drop 2 file) (omega (arith, length-drop 2 file))
+pub entry-message-long : (file : List ℕ) (n : ℕ) → 2 + n ≤ length file → length (take n (drop 2 file)) ≡ n
+entry-message-long file n h = length-take-le n (drop 2 file) (omega (arith, length-drop 2 file))
 
 -- ---- the entries that are fed
 
@@ -71,14 +71,14 @@ fed-few least (suc k) r file room =
     omega (arith, fed-few least k (next r x) (drop (n + 2) file) (room - length (wrote r x)))
 
 -- they lie within the file
-pub fed-inside : (least k : ℕ) (r : Receiver) (file : List ℕ) (room : ℕ) → bytesOf (messagesOf (fedFrom least k r file room)) ≤ length file
-unfolding fedFrom bytesOf
+pub fed-inside : (least k : ℕ) (r : Receiver) (file : List ℕ) (room : ℕ) → entryBytes (messagesOf (fedFrom least k r file room)) ≤ length file
+unfolding fedFrom entryBytes
 fed-inside least zero r file room = omega arith
 fed-inside least (suc k) r file room =
-    by-front (λ h. bytesOf (messagesOf h) ≤ length file) (nextIn least file room) _ (omega arith) λ n e.
+    by-front (λ h. entryBytes (messagesOf h) ≤ length file) (nextIn least file room) _ (omega arith) λ n e.
     let x = sentFrom n file room in
     let i = next-inside least file room n e in
-    omega (arith, fed-inside least k (next r x) (drop (n + 2) file) (room - length (wrote r x)), message-long file n i, length-drop (n + 2) file)
+    omega (arith, fed-inside least k (next r x) (drop (n + 2) file) (room - length (wrote r x)), entry-message-long file n i, length-drop (n + 2) file)
 
 -- and what they write within the output
 pub fed-room : (least k : ℕ) (r : Receiver) (file : List ℕ) (room : ℕ) → length (written r (fedFrom least k r file room)) ≤ room
@@ -110,7 +110,7 @@ fed-more least k r file room n e = rw e
 pub record Underway (r : Receiver) (h : List Sent) (a₀ o₀ : List ℕ) (f : Fed) (a o : List ℕ) (more : List Sent) : Type 0 where
   pub receiver : after (f .receiver) more ≡ after r h
   pub entries : f .entries + length more ≡ length h
-  pub used : f .used + bytesOf (messagesOf more) ≡ bytesOf (messagesOf h)
+  pub used : f .used + entryBytes (messagesOf more) ≡ entryBytes (messagesOf h)
   pub records : recordBytes * f .records + length (written (f .receiver) more) ≡ length (written r h)
   pub answers : laidAt a (answerNumbers * f .entries) (answersTo (f .receiver) more) ≡ laid a₀ (answersTo r h)
   pub output : laidAt o (recordBytes * f .records) (written (f .receiver) more) ≡ laid o₀ (written r h)
@@ -124,7 +124,7 @@ underway-first r h a o =
     record { receiver = refl; entries = omega arith; used = omega arith; records = omega arith; answers = refl; output = refl }
 
 underway-last : (r : Receiver) (h : List Sent) (a₀ o₀ : List ℕ) (f : Fed) (a o : List ℕ) → Underway r h a₀ o₀ f a o [] → Feeds r h f a₀ a o₀ o
-unfolding after written answersTo bytesOf
+unfolding after written answersTo entryBytes
 underway-last r h a₀ o₀ f a o u =
     record {
       receiver = u .receiver;
@@ -152,7 +152,7 @@ module _ (r : Receiver) (h : List Sent) (a₀ o₀ : List ℕ) (f : Fed) (a o : 
     (room : recordBytes * f .records + length (wrote (f .receiver) x ++ written (next (f .receiver) x) more) ≤ length o)
     (list : answerNumbers * f .entries + length (numbersOf b ++ answersTo (next (f .receiver) x) more) ≤ length a) where
   underway-next : Underway r h a₀ o₀ (withEntryOf f n q b) (putMid (answerNumbers * f .entries) (length a - answerNumbers * f .entries) a m) (putMid (recordBytes * f .records) (length o - recordBytes * f .records) o l) more
-  unfolding after written answersTo bytesOf
+  unfolding after written answersTo entryBytes
   underway-next =
       let e : recordBytes * b .records ≡ length (wrote (f .receiver) x) = ap (λ (c : Answer). recordBytes * c .records) (k .answer) ∙ records-written (f .receiver) x in
       let wa = wrote-on a (answerNumbers * f .entries) answerNumbers m (numbersOf b) (answersTo (next (f .receiver) x) more) em refl list in
@@ -254,7 +254,7 @@ module _ (least : ℕ) (r : Receiver) (file a₀ o₀ : List ℕ) (f : Fed) (a o
     message-is = let z : f .used + 2 + n - (f .used + 2) ≡ n = omega arith in λ i. take (z i) (sym (drop-drop 2 (f .used) file) i)
 
     x-long : length (x .message) ≡ n
-    x-long = message-long (drop (f .used) file) n (next-inside least (drop (f .used) file) room n (at-rest (Front.Entry n) e))
+    x-long = entry-message-long (drop (f .used) file) n (next-inside least (drop (f .used) file) room n (at-rest (Front.Entry n) e))
 
     module _ (q : Receiver) (b : Answer) (l : List ℕ) (k : Receives (f .receiver) message space q b l) where
       step : Step (f .receiver) x space q b l

@@ -43,9 +43,9 @@ fedFrom least (suc k) r file room =
 -- ---- what is answered of them
 
 -- the bytes of messages in a file: two of length, and the message
-unfoldable pub bytesOf : List (List ℕ) → ℕ
-bytesOf [] = 0
-bytesOf (m ∷ ms) = 2 + length m + bytesOf ms
+unfoldable pub entryBytes : List (List ℕ) → ℕ
+entryBytes [] = 0
+entryBytes (m ∷ ms) = 2 + length m + entryBytes ms
 
 -- how many numbers an answer has
 abbrev pub answerNumbers : ℕ
@@ -66,7 +66,7 @@ answersTo r (x ∷ h) = numbersOf (answerTo r x) ++ answersTo (next r x) h
 pub record Feeds (r : Receiver) (h : List Sent) (f : Fed) (a₀ a o₀ o : List ℕ) : Type 0 where
   pub receiver : f .receiver ≡ after r h
   pub entries : f .entries ≡ length h
-  pub used : f .used ≡ bytesOf (messagesOf h)
+  pub used : f .used ≡ entryBytes (messagesOf h)
   pub records : recordBytes * f .records ≡ length (written r h)
   pub answers : a ≡ laid a₀ (answersTo r h)
   pub output : o ≡ laid o₀ (written r h)

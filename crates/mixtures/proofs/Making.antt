@@ -20,7 +20,7 @@ use Rattle.bursts.proofs.Refusing.{by-contract}
 use Rattle.demands.specs.Histories.{Call, Calls, last, allLeft}
 use Rattle.demands.proofs.Histories.{sent}
 use Rattle.mixtures.specs.Singly.{HandedOn, allAnswers}
-use Rattle.mixtures.specs.Mixtures.{Either, single, batch, Allowed, receiverOf, messagesOf, answersOfEither, recordsOfEither}
+use Rattle.mixtures.specs.Mixtures.{Either, single, batch, Allowed, receiverOf, messagesOfEither, answersOfEither, recordsOfEither}
 use Rattle.mixtures.proofs.Singly.{calls-answers, sent-long, a-batch-is-its-entries-fed-singly}
 
 -- ---- messages in single calls, each lent what the one before it left
@@ -56,7 +56,7 @@ made-messages r (m ∷ ms) output = ap (λ (l : List (List ℕ)). m ∷ l) (made
 
 pub record Alike (r : Receiver) (e : Either) (h : List Call) : Type 0 where
   pub calls : Calls r h
-  pub messages : map (λ (c : Call). c .message) h ≡ messagesOf e
+  pub messages : map (λ (c : Call). c .message) h ≡ messagesOfEither e
   pub receiver : last r h ≡ receiverOf e
   pub answers : allAnswers h ≡ answersOfEither e
   pub records : allLeft h ≡ recordsOfEither e

@@ -35,9 +35,9 @@ receiverOf (single c) = c .receiver
 receiverOf (batch b) = b .receiver
 
 -- the messages that it fed: a batch that is refused feeds none
-abbrev pub messagesOf : Either → List (List ℕ)
-messagesOf (single c) = c .message ∷ []
-messagesOf (batch b) = cond (eqb (b .batch .refusal) none) (messagesIn (b .buffer)) []
+abbrev pub messagesOfEither : Either → List (List ℕ)
+messagesOfEither (single c) = c .message ∷ []
+messagesOfEither (batch b) = cond (eqb (b .batch .refusal) none) (messagesIn (b .buffer)) []
 
 -- their answers, and the records that they wrote
 abbrev pub answersOfEither : Either → List ℕ
@@ -60,7 +60,7 @@ lastOf r (e ∷ es) = lastOf (receiverOf e) es
 
 unfoldable pub messagesFed : List Either → List (List ℕ)
 messagesFed [] = []
-messagesFed (e ∷ es) = messagesOf e ++ messagesFed es
+messagesFed (e ∷ es) = messagesOfEither e ++ messagesFed es
 
 unfoldable pub answersGiven : List Either → List ℕ
 answersGiven [] = []
@@ -78,6 +78,7 @@ pub record SameAs (r : Receiver) (es : List Either) (h : List Call) : Type 0 whe
   pub answers : allAnswers h ≡ answersGiven es
   pub records : allLeft h ≡ recordsWritten es
 
+-- there are such calls
 pub record InSingleCalls (r : Receiver) (es : List Either) : Type 0 where
   pub calls : List Call
   pub same : SameAs r es calls

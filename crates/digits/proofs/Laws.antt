@@ -3,7 +3,7 @@
 use Prim.Native.Nat.{ℕ, zero, suc, _+_, _*_, _/_, _%_, _^_, _<_, _≤_}
 use mathlib.Core.Path.{_≡_, refl, sym, ap, _∙_}
 use mathlib.Core.List.{List, [], _∷_, _++_}
-use native.Mathlib.Nat.{pow-suc, pow-succ', add-mul, mul-assoc, mul-comm, add-assoc, suc-add, add-comm, zero-add, one-mul, one-le-pow, pow-le-pow-right, mul-le-mul, lt-of-lt-of-le, mul-le-mul-right, div-add-mod', div-div-eq-div-mul, mul-suc, mul-add-div-right, mul-add-mod-self-right}
+use native.Mathlib.Nat.{pow-suc, pow-succ', add-mul, mul-assoc, mul-comm, add-assoc, zero-add, one-mul, one-le-pow, pow-le-pow-right, mul-le-mul, lt-of-lt-of-le, mul-le-mul-right, div-add-mod', div-div-eq-div-mul, mul-suc}
 use native.Mathlib.Omega.{arith}
 use lib.Dec.{lit<}
 use lib.ListN.{length, take, drop}
@@ -96,23 +96,6 @@ joined-digits a (suc c) n =
 pub joined-whole : (c n : ℕ) → joined (n / 256 ^ c) (digits c n) ≡ n
 joined-whole c n = joined-digits (n / 256 ^ c) c n ∙ div-add-mod' n (256 ^ c)
 
--- the digits in two parts
-pub digits-append : (i k n : ℕ) → digits (i + k) n ≡ digits i (n / 256 ^ k) ++ digits k n
-unfolding digits
-digits-append zero k n = rw zero-add
-digits-append (suc i) k n =
-    rw (suc-add, digits, add-comm i k, pow-add 256 k i, ← div-div-eq-div-mul n (256 ^ k) (256 ^ i), add-comm k i, digits-append i k n)
-
 -- one digit less
 pub digit-step : (n j : ℕ) → n / 256 ^ j / 256 ≡ n / 256 ^ suc j
 digit-step n j = rw (pow-suc, div-div-eq-div-mul)
-
--- digits below the c lowest do not count what stands above
-pub digits-low : (c x y : ℕ) → digits c (x * 256 ^ c + y) ≡ digits c y
-unfolding digits
-digits-low zero x y = refl
-digits-low (suc c) x y = rw (up, mul-add-div-right (pow-pos c) (x * 256) y, mul-add-mod-self-right x 256 (y / 256 ^ c), digits-low c (x * 256) y)
-
--- the digits of a high part and c low digits
-pub digits-high : (i c x : ℕ) {y : ℕ} → y < 256 ^ c → digits (i + c) (x * 256 ^ c + y) ≡ digits i x ++ digits c y
-digits-high i c x {y} h = rw (digits-append, digits-div x h, digits-low)

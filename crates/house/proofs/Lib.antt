@@ -5,4 +5,3 @@ pub mod WellFormed
 pub mod Front
 pub mod Round
 pub mod Unique
-mod Writing

@@ -1,34 +1,31 @@
--- How fields follow each other into a record's bytes: what stands in the output and what is pending after some of them.
-use Prim.Native.Nat.{ℕ, _+_, _/_, _%_, _^_, _≤_, _<_}
+-- How fields follow each other into a record's bytes, each behind the bits that stand there already.
+use Prim.Native.Nat.{ℕ, _+_, _*_, _-_, _/_, _%_, _^_, _≤_, _<_}
 use mathlib.Core.Path.{_≡_}
-use mathlib.Core.List.{List, _++_}
-use lib.ListN.{length, drop}
-use Rattle.digits.specs.Digits.{digits}
+use mathlib.Core.List.{List}
+use lib.ListN.{length, take, drop}
+use Rattle.digits.specs.Digits.{joined}
 use Rattle.house.specs.Fields.{Field, packFrom, total, widths}
-use Rattle.house.specs.declared.bits.Place.{Place}
 
--- over s stand the bits before p, whose number is n: whole bytes in out, the others in p
-pub record Filled (s : List ℕ) (n : ℕ) (out : List ℕ) (p : Place) : Type 0 where
-  pub pending : p .pending ≡ n % 2 ^ (p .bits % 8)
-  pub bytes : out ≡ digits (p .bits / 8) (n / 2 ^ (p .bits % 8)) ++ drop (p .bits / 8) s
+-- how many bytes b bits reach into
+abbrev pub reach : ℕ → ℕ
+reach b = (b + 7) / 8
 
--- w more bits fit a record in an output of n bytes, and fewer than eight are pending
-pub record Ready (p : Place) (w n : ℕ) : Type 0 where
-  pub pending : p .pending < 2 ^ (p .bits % 8)
-  pub inside : p .bits + w ≤ 168
-  pub room : 21 ≤ n
+-- the number of the first b bits of some bytes
+unfoldable pub firstBits : ℕ → List ℕ → ℕ
+firstBits b s = joined 0 (take (reach b) s) / 2 ^ (8 * reach b - b)
 
--- they and what is pending fit a word
-pub record Word (p : Place) (w : ℕ) : Type 0 where
+-- the fields follow the first b bits: these stay, and nothing past the byte in which the fields end is touched
+pub record Puts (fs : List Field) (b : ℕ) (before after : List ℕ) : Type 0 where
+  pub bits : firstBits (b + total (widths fs)) after ≡ packFrom (firstBits b before) fs
+  pub rest : drop (reach (b + total (widths fs))) after ≡ drop (reach (b + total (widths fs))) before
+  pub size : length after ≡ length before
+
+-- a field of w bits behind the first b of n bytes ends within them, and the bytes that it touches fit a word
+pub record Space (b w n : ℕ) : Type 0 where
+  pub some : 0 < w
   pub narrow : w < 64
-  pub word : p .bits % 8 + w ≤ 64
-
--- the fields were written from p on, and q is the place after them
-pub record Puts (fs : List Field) (out : List ℕ) (p : Place) (after : List ℕ) (q : Place) : Type 0 where
-  pub bits : q .bits ≡ p .bits + total (widths fs)
-  pub pending : q .pending < 2 ^ (q .bits % 8)
-  pub size : length after ≡ length out
-  pub filled : (s : List ℕ) (n : ℕ) → Filled s n out p → Filled s (packFrom n fs) after q
+  pub word : b % 8 + w ≤ 64
+  pub inside : b + w ≤ 8 * n
 
 -- a field lies within a record of n bytes, and the bytes that it touches fit a word
 pub record Within (at w n : ℕ) : Type 0 where

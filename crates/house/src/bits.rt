@@ -5,13 +5,7 @@ ghost use mathlib.Core.List.{[], _∷_};
 ghost use lib.ListN.{length};
 ghost use Rattle.digits.specs.Digits.{joined};
 ghost use Rattle.house.specs.Fields.{field};
-ghost use Rattle.house.specs.Filling.{Ready, Word, Puts, Within};
-
-// Where the next field goes: how many bits stand before it, and the number of those that do not fill a byte yet.
-pub(crate) struct Place {
-    pub(crate) bits: usize,
-    pub(crate) pending: u64,
-}
+ghost use Rattle.house.specs.Filling.{Puts, Space, Within};
 
 // The k low bits of n.
 fn low_bits(n: u64, k: usize) -> u64
@@ -21,24 +15,30 @@ fn low_bits(n: u64, k: usize) -> u64
     n - ((n >> k) << k)
 }
 
-// Writes a field: each byte that it completes goes out.
-pub(crate) fn put(out: &mut [u8], place: Place, width: usize, value: u64) -> Place
-    requires { ⌜ Ready place width (length (now out)) ⌝ }
-    requires { ⌜ Word place width ⌝ }
-    ensures { λ r. ⌜ Puts (field width value ∷ []) (now (out .entry)) place (now (out .exit)) r ⌝ }
+// Writes a field behind the bits that are taken of the first byte lent. These are written again with the field's first bits, and the bits
+// behind the field in its last byte become 0: of what stood there nothing shines through.
+fn put_behind(out: &mut [u8], taken: usize, width: usize, value: u64)
+    requires { ⌜ (taken < 8) × Space taken width (length (now out)) ⌝ }
+    ensures { λ _. ⌜ Puts (field width value ∷ []) taken (now (out .entry)) (now (out .exit)) ⌝ }
 {
-    let n = (place.pending << width) + low_bits(value, width);
-    let mut left = place.bits % 8 + width;
-    let mut at = place.bits / 8;
-    while 8 <= left {
-        left = left - 8;
-        out[at] = ((n >> left) % 256) as u8;
-        at = at + 1;
+    let bits = taken + width;
+    let bytes = (bits + 7) / 8;
+    let begun = (out[0] as u64) >> (8 - taken);
+    let n = ((begun << width) + low_bits(value, width)) << (8 * bytes - bits);
+    let mut i: usize = 0;
+    while i < bytes {
+        let below = bytes - 1 - i;
+        out[i] = ((n >> (8 * below)) % 256) as u8;
+        i = i + 1;
     }
-    Place {
-        bits: place.bits + width,
-        pending: low_bits(n, left),
-    }
+}
+
+// Writes a field at bits into a record: what is lent on is the output from the byte in which the field before it ended.
+pub(crate) fn put(out: &mut [u8], at: usize, width: usize, value: u64)
+    requires { ⌜ Space at width (length (now out)) ⌝ }
+    ensures { λ _. ⌜ Puts (field width value ∷ []) at (now (out .entry)) (now (out .exit)) ⌝ }
+{
+    put_behind(&mut out[at / 8..], at % 8, width, value);
 }
 
 // The field of width bits that stands at bits into a record.

@@ -1,5 +1,4 @@
 // Signed numbers: the sign and the magnitude, and fields in two's complement.
-use crate::bits::Place;
 ghost use mathlib.Core.Path.{_≡_};
 ghost use Prim.Native.Nat.{_+_, _-_, _/_, _%_, _^_, _<_};
 ghost use mathlib.Core.List.{[], _∷_};
@@ -9,7 +8,7 @@ ghost use Rattle.digits.specs.Digits.{joined};
 ghost use Rattle.house.specs.Twos.{twosOf, ofTwos, Holds};
 ghost use Rattle.house.specs.Layout.{signed};
 ghost use Rattle.house.specs.WellFormed.{above, zero?};
-ghost use Rattle.house.specs.Filling.{Ready, Puts, Within};
+ghost use Rattle.house.specs.Filling.{Puts, Space, Within};
 
 fn pow2(k: usize) -> u64
     requires { ⌜ k < 64 ⌝ }
@@ -38,14 +37,16 @@ pub(crate) fn is_zero(x: i32) -> bool
     if x < 0 { false } else { magnitude(x) == 0 }
 }
 
+// A whole turn of 32 bits: a multiple of every 2^width up to there, so that x + TURN is x modulo 2^width, and never below 0.
+const TURN: i64 = 0x100000000;
+
 // x modulo 2^width.
 fn twos(x: i32, width: usize) -> u64
     requires { ⌜ width < 33 ⌝ }
     ensures { λ r. ⌜ r ≡ twosOf width x ⌝ }
 {
-    let p = pow2(width);
-    let m = magnitude(x) as u64 % p;
-    if x < 0 { p - 1 - m } else { m }
+    let wide = (x as i64 + TURN) as u64;
+    wide % pow2(width)
 }
 
 // The number of a field of width bits.
@@ -63,13 +64,13 @@ fn of_twos(v: u64, width: usize) -> i32
 }
 
 // Writes a signed field.
-pub(crate) fn put_signed(out: &mut [u8], place: Place, width: usize, x: i32) -> Place
+pub(crate) fn put_signed(out: &mut [u8], at: usize, width: usize, x: i32)
     requires { ⌜ width < 33 ⌝ }
-    requires { ⌜ Ready place width (length (now out)) ⌝ }
-    ensures { λ r. ⌜ Puts (signed width x ∷ []) (now (out .entry)) place (now (out .exit)) r ⌝ }
+    requires { ⌜ Space at width (length (now out)) ⌝ }
+    ensures { λ _. ⌜ Puts (signed width x ∷ []) at (now (out .entry)) (now (out .exit)) ⌝ }
 {
     let v = twos(x, width);
-    crate::bits::put(out, place, width, v)
+    crate::bits::put(out, at, width, v);
 }
 
 // Reads a signed field.

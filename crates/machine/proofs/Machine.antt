@@ -94,14 +94,6 @@ module _ {C : Type 0} (view : View C) where
         let n = stepMachine view rules m f in
         rw (bytes-append n fs gs) (sym (append-assoc (stepBytes view rules m f) (runBytes view rules n fs) (runBytes view rules (runMachine view rules n fs) gs)))
 
-    pub counts-append : (m : Machine) (fs gs : List (Frame C)) → runCounts view rules m (fs ++ gs) ≡ plus (runCounts view rules m fs) (runCounts view rules (runMachine view rules m fs) gs)
-    unfolding runMachine runCounts
-    counts-append m [] gs = sym (none-plus (runCounts view rules m gs))
-    counts-append m (f ∷ fs) gs =
-        let v = countOf (verdict view rules m (f .contacts)) in
-        let n = stepMachine view rules m f in
-        ap (plus v) (counts-append n fs gs) ∙ sym (plus-assoc v (runCounts view rules n fs) (runCounts view rules (runMachine view rules n fs) gs))
-
     -- "The three counts add up to frameCount."
     pub counts-total : (m : Machine) (fs : List (Frame C)) → total (runCounts view rules m fs) ≡ length fs
     unfolding runCounts

@@ -1,43 +1,39 @@
--- `house::write_contact` meets its contract: the record is filled in a copy, which is laid over the front.
+-- `house::write_contact` meets its contract: where there is room the fields go into the output, and otherwise nothing does.
 -- Assumes nothing.
-use mathlib.Core.Path.{refl}
-use Rattle.house.specs.Layout.{contactFields, contactBytes}
-use Rattle.house.proofs.Fields.{length-packed}
-use Rattle.house.proofs.Writing.{copied}
+use mathlib.Core.Path.{refl, _∙_}
+use native.Mathlib.Omega.{arith}
+use Rattle.slices.proofs.Laws.{writes-bytes, writes-none}
+use Rattle.house.proofs.Round.{length-contact}
 use borrow.Author.Needs.{needs}
 use Rattle.house.proofs.write_contact.Statement.{statement}
 use Rattle.house.proofs.write_contact.Tie as tie
 
-slice-aggregate-fill-contact : tie.Need-slice-aggregate-fill-contact
-slice-aggregate-fill-contact c = search needs
+no-room-requires : tie.Need-no-room-requires
+no-room-requires c κs = search needs
+
+returns : tie.Need-returns
+returns c =
+    let a = c .before .before .before .args in
+    let n = length-contact (a .kind) (a .contact) in
+    writes-none _ _ _ _ (omega arith) (c .no-room .ensures) refl
 
 fill-contact-requires : tie.Need-fill-contact-requires
 fill-contact-requires c κs = search needs
 
-slice-aggregate-lay : tie.Need-slice-aggregate-lay
-slice-aggregate-lay c = search needs
-
-lay-requires : tie.Need-lay-requires
-lay-requires c κs = search needs
+written-requires : tie.Need-written-requires
+written-requires c κs = search needs
 
 same-length : tie.Need-same-length
 same-length c = search needs
 
-returns : tie.Need-returns
-unfolding contactBytes
-returns c =
-    let l = c .before .before in
-    let f = l .before .before .before .before in
-    let s = f .before .before .before in
-    copied _ _ _ _ _ _ (length-packed (contactFields (s .args .kind) (s .args .contact))) refl (f .fill-contact .ensures) (l .lay .ensures)
+returns-2 : tie.Need-returns-2
+returns-2 c =
+    let f = c .before .before .before in
+    let a = f .before .before .before .before .args in
+    let n = length-contact (a .kind) (a .contact) in
+    writes-bytes _ _ _ _ (omega arith) (c .written .ensures ∙ rw n) (f .fill-contact .ensures)
 
 pub write-contact-spec : {M : Type 1} → statement M
 write-contact-spec =
     tie.close
-    (tie.spec
-    slice-aggregate-fill-contact
-    fill-contact-requires
-    slice-aggregate-lay
-    lay-requires
-    same-length
-    returns)
+    (tie.spec no-room-requires returns fill-contact-requires written-requires same-length returns-2)

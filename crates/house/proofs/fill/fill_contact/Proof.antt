@@ -31,10 +31,10 @@ returns c =
     let s = l .before .before .before .before in
     let p = s .before .before .before .before in
     let f = p .before .before .before .before in
-    let a = f .before .before .before .before .before .args in
-    let fs = contactFields (a .kind) (a .contact) in
+    let a = f .before .before .before .before .before in
+    let fs = contactFields (a .args .kind) (a .args .contact) in
     rw (length-packed fs)
-    (puts-all (pack fs) (puts-then (puts-then (puts-then (f .put-lead .ensures) (p .put-point .ensures)) (s .put-sides .ensures)) (l .put-last .ensures)) refl refl)
+    (puts-all (pack fs) (puts-then (puts-then (puts-then (f .put-lead .ensures) (p .put-point .ensures)) (s .put-sides .ensures)) (l .put-last .ensures)) (λ i. c .slice-known5 .given i .fits) (a .pre) refl refl)
 
 pub fill-contact-spec : {M : Type 1} → statement M
 fill-contact-spec =

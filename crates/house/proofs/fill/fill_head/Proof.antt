@@ -38,9 +38,10 @@ returns c =
     let x = y .before .before .before .before in
     let n = x .before .before .before .before in
     let k = n .before .before .before .before .before in
-    let fs = headFields (k .before .before .before .before .args .head) in
+    let a = k .before .before .before .before in
+    let fs = headFields (a .args .head) in
     rw (length-packed fs)
-    (puts-all (pack fs) (puts-then (puts-then (puts-then (puts-then (k .put .ensures) (n .put2 .ensures)) (x .put3 .ensures)) (y .put4 .ensures)) (z .put5 .ensures)) refl (zeros _ 59 40))
+    (puts-all (pack fs) (puts-then (puts-then (puts-then (puts-then (k .put .ensures) (n .put2 .ensures)) (x .put3 .ensures)) (y .put4 .ensures)) (z .put5 .ensures)) (λ i. c .slice-known6 .given i .fits) (a .pre) refl (zeros _ 59 40))
 
 pub fill-head-spec : {M : Type 1} → statement M
 fill-head-spec =

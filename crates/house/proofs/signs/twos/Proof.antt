@@ -1,67 +1,47 @@
--- `house::signs::twos` meets its contract: by its sign, a number is n or -(n + 1), with n its magnitude.
+-- `house::signs::twos` meets its contract: what is added is 0 modulo 2 ^ width.
 -- Assumes nothing.
 use mathlib.Core.Path.{_≡_, ap, _∙_}
-use Prim.Native.Nat.{ℕ, _-_, _%_, _^_}
-use native.Mathlib.Nat.{mod-lt}
 use native.Mathlib.Omega.{arith}
-use lib.IntN.{ℤ, pos, negsuc}
-use lib.Signed.{mag}
+use Prim.Native.Nat.{ℕ, _^_, _≤_}
+use lib.Dec.{lit≤}
+use lib.IntN.{ℤ, pos, _+ℤ_}
 use lib.Pow.{pow-pos}
-use mir.Syntax.{w32}
-use mir.ValLaws.{toZ-ofZ}
-use Rattle.house.specs.Twos.{twosOf}
-use Rattle.house.proofs.Twos.{negative, positive}
+use mir.Syntax.{w32, w64}
+use mir.Val.{SFits, toZ, ofZ}
+use mir.ValLaws.{toZ-pos}
+use Rattle.house.proofs.Twos.{cast-wider, wider, raised, raised-is, raised-fits, raised-mod}
 use borrow.Author.Needs.{needs}
 use Rattle.house.proofs.signs.twos.Statement.{statement}
 use Rattle.house.proofs.signs.twos.Tie as tie
 
-below : (w m : ℕ) (z : ℤ) → z ≡ negsuc (mag z) → m ≡ mag z → 2 ^ w - 1 - m % 2 ^ w ≡ twosOf w z
-below w m z e q = rw (q, e) (omega arith)
+-- the sum of the wide number and t
+sum : (t : ℕ) (z : ℤ) → 2 ^ 31 ≤ t → SFits w32 z → toZ w64 (ofZ w64 (toZ w32 (ofZ w32 z))) +ℤ pos t ≡ pos (raised t z)
+sum t z h f = ap (λ (x : ℤ). x +ℤ pos t) (wider w32 w64 z tt f) ∙ raised-is t z h f
 
-above : (w m : ℕ) (z : ℤ) → z ≡ pos (mag z) → m ≡ mag z → m % 2 ^ w ≡ twosOf w z
-above w m z e q = rw (q, e)
+sum-fits : (t : ℕ) (z : ℤ) → 2 ^ 31 ≤ t → t ≤ 2 ^ 62 → SFits w32 z → SFits w64 (toZ w64 (ofZ w64 (toZ w32 (ofZ w32 z))) +ℤ pos t)
+sum-fits t z h l f = rw (sum t z h f) (record { sfits = raised-fits t z l f })
+
+-- read back, it is that number still
+back : (z : ℤ) → SFits w32 z → toZ w64 (ofZ w64 (toZ w64 (ofZ w64 (toZ w32 (ofZ w32 z))) +ℤ pos 4294967296)) ≡ pos (raised 4294967296 z)
+back z f = ap (λ (x : ℤ). toZ w64 (ofZ w64 x)) (sum 4294967296 z (lit≤ tt) f) ∙ toZ-pos w64 _ (raised-fits 4294967296 z (lit≤ tt) f)
+
+cast-wide : tie.Need-cast-wide
+cast-wide c = cast-wider w32 w64 _ tt (c .fits .x)
+
+add-wide : tie.Need-add-wide
+add-wide c = sum-fits _ _ (lit≤ tt) (lit≤ tt) (c .fits .x)
+
+cast-wide-2 : tie.Need-cast-wide-2
+cast-wide-2 c = rw (back _ (c .fits .x)) (tt, omega (arith, raised-fits 4294967296 _ (lit≤ tt) (c .fits .x)))
 
 pow2-requires : tie.Need-pow2-requires
 pow2-requires c κs = search needs
 
-magnitude-requires : tie.Need-magnitude-requires
-magnitude-requires c κs = search needs
-
-cast-m : tie.Need-cast-m
-cast-m c = search needs
-
-rem-m : tie.Need-rem-m
-rem-m c = rw (c .before .pow2 .ensures) (pow-pos _)
-
-sub-result : tie.Need-sub-result
-sub-result c = rw (c .before .before .pow2 .ensures) (pow-pos _)
-
-sub-result-2 : tie.Need-sub-result-2
-sub-result-2 c =
-    let w = c .before .before .before .args .width in
-    rw (c .before .before .pow2 .ensures) (omega (arith, mod-lt (c .before .magnitude .result) (pow-pos w)))
+rem-result : tie.Need-rem-result
+rem-result c = rw (c .pow2 .ensures) (pow-pos _)
 
 returns : tie.Need-returns
-returns c =
-    let s = c .before .before .before in
-    rw (c .before .before .pow2 .ensures)
-    (below (s .args .width) _ _ (negative _ (s .fits .x) (c .if1 .taken)) (c .before .magnitude .ensures ∙ ap mag (toZ-ofZ w32 _ (s .fits .x))))
-
-returns-2 : tie.Need-returns-2
-returns-2 c =
-    let s = c .before .before .before in
-    rw (c .before .before .pow2 .ensures)
-    (above (s .args .width) _ _ (positive _ (s .fits .x) (c .if1 .left)) (c .before .magnitude .ensures ∙ ap mag (toZ-ofZ w32 _ (s .fits .x))))
+returns c = let s = c .before in rw (back _ (s .fits .x), c .pow2 .ensures) (raised-mod (s .args .width) _ (s .pre) (s .fits .x))
 
 pub twos-spec : {M : Type 1} → statement M
-twos-spec =
-    tie.close
-    (tie.spec
-    pow2-requires
-    magnitude-requires
-    cast-m
-    rem-m
-    sub-result
-    sub-result-2
-    returns
-    returns-2)
+twos-spec = tie.close (tie.spec cast-wide add-wide cast-wide-2 pow2-requires rem-result returns)

@@ -2,15 +2,16 @@
 -- Assumes nothing.
 use mathlib.Core.Path.{ap, sym, _∙_}
 use mathlib.Core.Bool.{Bool}
+use mir.Syntax.{w16, w32}
 use Rattle.house.specs.WellFormed.{sideWell, zero?}
 use Rattle.house.specs.Parts.{oneSideWell}
-use Rattle.house.proofs.Twos.{cast16, wide16}
+use Rattle.house.proofs.Twos.{cast-wider, wider}
 use borrow.Author.Needs.{needs}
 use Rattle.house.proofs.well.is_side_well.Statement.{statement}
 use Rattle.house.proofs.well.is_side_well.Tie as tie
 
 cast-wide : tie.Need-cast-wide
-cast-wide c = cast16 (c .args .side) (c .fits .side)
+cast-wide c = cast-wider w16 w32 (c .args .side) tt (c .fits .side)
 
 is-above-requires : tie.Need-is-above-requires
 is-above-requires c κs = search needs
@@ -21,12 +22,12 @@ is-zero-requires c κs = search needs
 returns : tie.Need-returns
 returns c =
     let s = c .before .before in
-    c .is-above .ensures ∙ ap sideWell (wide16 (s .args .side) (s .fits .side)) ∙ ap (λ (b : Bool). oneSideWell b (s .args .side)) (sym (c .before .if1 .taken))
+    c .is-above .ensures ∙ ap sideWell (wider w16 w32 (s .args .side) tt (s .fits .side)) ∙ ap (λ (b : Bool). oneSideWell b (s .args .side)) (sym (c .before .if1 .taken))
 
 returns-2 : tie.Need-returns-2
 returns-2 c =
     let s = c .before .before in
-    c .is-zero .ensures ∙ ap zero? (wide16 (s .args .side) (s .fits .side)) ∙ ap (λ (b : Bool). oneSideWell b (s .args .side)) (sym (c .before .if1 .left))
+    c .is-zero .ensures ∙ ap zero? (wider w16 w32 (s .args .side) tt (s .fits .side)) ∙ ap (λ (b : Bool). oneSideWell b (s .args .side)) (sym (c .before .if1 .left))
 
 pub is-side-well-spec : {M : Type 1} → statement M
 is-side-well-spec =

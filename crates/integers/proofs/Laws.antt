@@ -18,7 +18,7 @@ use Rattle.digits.specs.Digits.{joined, digits, Bytes}
 use Rattle.digits.proofs.Laws.{bytes-take, pow-pos, joined-whole, joined-div, joined-small, digits-joined, length-digits}
 use Rattle.slices.specs.Writing.{bytes, refuse}
 use Rattle.integers.specs.Integer.{Reading, value, refused, decoded, furthest, fewest, only, decodedOnly, formed, written, countOf, signOf, tops, signs, limit, reading, writing, draft}
-use Rattle.integers.proofs.Fewest.{fewest-fits, fewest-least}
+use Rattle.integers.proofs.Fewest.{fewest-fits, fewest-least, fewest-most}
 use Rattle.integers.proofs.ByteOne.{tops-pos, signs-pos, count-range, held}
 
 -- ---- decoding, at any length
@@ -309,6 +309,18 @@ length-and-value k g hk h =
     }
 
 -- ---- what is written
+
+-- a sign takes no byte of its own, and no integer more than eight
+module _ (k g s m : ℕ) where
+  pub writing-sign : length (writing k g s m) ≡ length (writing k g 0 m)
+  writing-sign =
+      let c = fewest furthest (tops k g) m in
+      length-formed (tops k g) (signs g) c s m ∙ sym (length-formed (tops k g) (signs g) c 0 m)
+
+  pub writing-most : length (writing k g s m) ≤ 8
+  writing-most =
+      let t = tops k g in
+      omega (arith, length-formed t (signs g) (fewest furthest t m) s m, fewest-most furthest t m)
 
 -- a magnitude that is less is written no longer
 pub writing-shorter : (k g s m n : ℕ) → k ≤ 3 → k + g ≤ 8 → m ≤ n → n < limit k g → length (writing k g s m) ≤ length (writing k g s n)

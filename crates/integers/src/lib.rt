@@ -1,9 +1,15 @@
-// The five integers of 000, 2.2.2: read in their only form, and written in it.
+// The five integers of 000, 2.2.2: read in their only form, written in it, and how long that is.
 mod common;
 mod found;
+mod lengths;
 mod read;
 mod write;
 
+pub use lengths::s2_bytes;
+pub use lengths::s4_bytes;
+pub use lengths::u2_bytes;
+pub use lengths::u4_bytes;
+pub use lengths::u8_bytes;
 pub use read::read_s2;
 pub use read::read_s4;
 pub use read::read_u2;

@@ -1,6 +1,7 @@
 // One writer for all five kinds, by count bits and sign bits, and the five.
 use crate::common::fewest_of;
 use crate::common::power;
+use crate::common::split;
 use crate::common::widened;
 use slices::Written;
 ghost use mathlib.Core.Path.{_≡_};
@@ -62,28 +63,6 @@ fn write(out: &mut [u8], k: u8, g: u8, greatest: u64, s: u8, m: u64) -> Written
     Written {
         refusal: 0,
         bytes: c + 1,
-    }
-}
-
-// The sign and the magnitude of a signed value.
-struct Parts {
-    minus: u8,
-    size: u64,
-}
-
-// The least i32 has no opposite in i32: it is negated as an i64.
-fn split(z: i32) -> Parts
-    ensures { λ r. ⌜ (r .minus ≡ minus z) × (r .size ≡ natAbs z) ⌝ }
-{
-    if z < 0 {
-        return Parts {
-            minus: 1,
-            size: (0 - z as i64) as u64,
-        };
-    }
-    Parts {
-        minus: 0,
-        size: z as u64,
     }
 }
 

@@ -2,6 +2,7 @@ pub mod Checked
 pub mod Held
 pub mod RoundTrip
 pub mod Unique
-mod Filling
 mod Spelt
+mod Putting
+mod Measured
 mod Drafts

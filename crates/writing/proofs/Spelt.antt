@@ -8,8 +8,8 @@ use native.Mathlib.Nat.{zero-add, suc-add}
 use native.Mathlib.Numerals.{sub-one}
 use native.Mathlib.Omega.{arith}
 use lib.Dec.{lit≤, lit<}
-use lib.ListN.{length, drop, length-append}
-use lib.Seq.{drop-at}
+use lib.ListN.{length, drop, length-append, length-drop}
+use lib.Seq.{drop-at, drop-drop}
 use Rattle.paper.specs.declared.Milliseconds.{Milliseconds}
 use Rattle.digits.specs.Digits.{Bytes}
 use Rattle.formats.specs.Format.{got, Each, writeSeries}
@@ -23,6 +23,7 @@ use Rattle.messages.specs.Header.{header, headerBytes, writeMessage}
 use Rattle.messages.specs.Header as event
 use Rattle.framing.specs.Frame.{Frame, headOf, contactsBytes, frameBytes, framesBytes}
 use Rattle.framing.specs.Format.{bodyFormat, frameFormat}
+use Rattle.touch.specs.Limits.{mostContacts}
 use Rattle.touch.specs.Touch.{contact, frame, touch, touchRecord}
 use Rattle.recordings.specs.Records.{contactRecord, frameRecords, framesIn}
 use Rattle.writing.specs.TouchDraft.{messageOf}
@@ -37,20 +38,19 @@ unfolding spelt
 spelt-none zero l h = refl
 spelt-none (suc n) l h = absurd (omega (arith, h))
 
-pub spelt-more : (n : ℕ) (l : List ℕ) → 0 < n → spelt n l ≡ spelling (recordOf l) ++ spelt (n - 1) (drop 21 l)
-unfolding spelt
-spelt-more zero l h = absurd (omega (arith, h))
-spelt-more (suc n) l h = rw sub-one
+-- the record at from on, of n that are left
+pub record Next (n from : ℕ) (l : List ℕ) : Type 0 where
+  pub now : Spells (recordOf (drop from l))
+  pub same : spelt n (drop from l) ≡ spelling (recordOf (drop from l)) ++ spelt (n - 1) (drop (from + 21) l)
+  pub inside : from + 21 ≤ length l
+  pub others : Spelt (n - 1) (drop (from + 21) l)
 
-pub record Next (n : ℕ) (l : List ℕ) : Type 0 where
-  pub now : Spells (recordOf l)
-  pub long : 21 ≤ length l
-  pub others : Spelt (n - 1) (drop 21 l)
-
-pub next : (n : ℕ) (l : List ℕ) → 0 < n → Spelt n l → Next n l
-unfolding Spelt
-next zero l h s = absurd (omega (arith, h))
-next (suc n) l h s = record { now = s .0; long = s .1; others = rw sub-one (s .2) }
+pub next : (n from : ℕ) (l : List ℕ) → 0 < n → from ≤ length l → Spelt n (drop from l) → Next n from l
+unfolding spelt Spelt
+next zero from l h k s = absurd (omega (arith, h))
+next (suc n) from l h k s =
+    let d = drop-drop 21 from l in
+    record { now = s .0; same = rw (sub-one, d); inside = omega (arith, s .1, length-drop from l, k); others = rw (sub-one, ← d) (s .2) }
 
 -- ---- the records of frames are spelt as the frames are written
 
@@ -106,9 +106,18 @@ frames-spelt [] (suc m) h = absurd h
 frames-spelt (f ∷ fs) zero h = absurd h
 frames-spelt (f ∷ fs) (suc m) h = frame-more f (count fs) (framesBytes touchRecord fs) (writeSeries (λ b. frame taken b .write) false fs) (h .0) (frames-spelt fs m (h .1))
 
+-- no more than a head for each frame, and as many contacts as a frame can have
+count-most : (fs : List (Frame Contact)) (m : ℕ) → Each (λ b. frameRecords .Holds) false m fs → count fs ≤ m * (1 + mostContacts)
+unfolding Each count frameRecords
+count-most [] zero h = omega arith
+count-most [] (suc m) h = absurd h
+count-most (f ∷ fs) zero h = absurd h
+count-most (f ∷ fs) (suc m) h = omega (arith, h .0 .0 .count, count-most fs m (h .1))
+
 -- all the records of a slice that is read as frames, and the body that they make
 pub record Spelling (time : Milliseconds) (l : List ℕ) (fs : List (Frame Contact)) : Type 0 where
   pub each : Spelt (length l / 21) l
+  pub few : length l / 21 ≤ length fs * (1 + mostContacts)
   pub same : messageOf time fs ≡ header event.touch (headerBytes + length (bodyOf time (length fs) (length l / 21) l)) ++ bodyOf time (length fs) (length l / 21) l
 
 pub spelling-of : (time : Milliseconds) (l : List ℕ) (fs : List (Frame Contact)) (t : List ℕ) → Bytes l → framesIn l ≡ got fs t → Spelling time l fs
@@ -117,4 +126,4 @@ spelling-of time l fs t b e =
     let r = frames-read l fs t b e in
     let k : SpeltAs (count fs) l (writeSeries (λ b. frame taken b .write) false fs) = rw (r .same) (frames-spelt fs (length fs) (r .fit)) in
     let n : length l / 21 ≡ count fs = omega (arith, k .long) in
-    record { each = rw n (k .each); same = rw (n, k .same, append-nil) }
+    record { each = rw n (k .each); few = rw n (count-most fs (length fs) (r .fit)); same = rw (n, k .same, append-nil) }

@@ -1,4 +1,4 @@
 -- The touch writer.
 pub mod TouchDraft
-pub mod Filling
 pub mod Spelling
+pub mod Limits

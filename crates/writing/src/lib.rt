@@ -1,6 +1,8 @@
 // The touch writer.
 mod contact;
+mod lengths;
 mod message;
+mod numbers;
 mod parts;
 mod spell;
 

@@ -1,49 +1,54 @@
 -- `writing::contact::write_lead` meets its contract: the id, and fieldsPresent behind it.
 -- Assumes nothing.
 use mathlib.Core.Path.{refl}
-use native.Mathlib.Omega.{arith}
-use Rattle.writing.proofs.Filling.{lays-integer, lays-joined, joined-room}
+use mathlib.Core.List.{_++_}
+use denote.Ref.{now}
+use Rattle.formats.specs.Format.{byte}
+use Rattle.fields.specs.Integers.{taken}
+use Rattle.writing.proofs.Putting.{Parted, put-both}
 use borrow.Author.Needs.{needs}
 use Rattle.writing.proofs.contact.write_lead.Statement.{statement}
 use Rattle.writing.proofs.contact.write_lead.Tie as tie
 
+parted : (c : tie.Start) → let a = c .args in Parted (byte .write (a .id)) (taken .u2 .write (a .present)) (byte .write (a .id) ++ taken .u2 .write (a .present)) (now (a .out))
+parted c = record { same = refl; room = c .pre }
+
 write-byte-requires : tie.Need-write-byte-requires
 write-byte-requires c κs = search needs
 
-sub-write-u2 : tie.Need-sub-write-u2
-sub-write-u2 c = search needs
+sub-put-u2 : tie.Need-sub-put-u2
+sub-put-u2 c = search needs
 
-part-write-u2-start : tie.Need-part-write-u2-start
-part-write-u2-start c = search needs
+part-put-u2-start : tie.Need-part-put-u2-start
+part-put-u2-start c = search needs
 
-part-write-u2-end : tie.Need-part-write-u2-end
-part-write-u2-end c = search needs
+part-put-u2-end : tie.Need-part-put-u2-end
+part-put-u2-end c = search needs
 
-write-u2-requires : tie.Need-write-u2-requires
-write-u2-requires c κs = search needs
+put-u2-requires : tie.Need-put-u2-requires
+put-u2-requires c κs = search needs
 
-join-requires : tie.Need-join-requires
-join-requires c κs =
-    let u = c .before .before in
-    omega (arith, joined-room (u .before .before .before .before .write-byte .ensures) (lays-integer 1 0 _ _ _ _ _ (omega arith) (u .write-u2 .ensures)))
+add-result : tie.Need-add-result
+add-result c = search needs
 
 same-length : tie.Need-same-length
 same-length c = search needs
 
 returns : tie.Need-returns
 returns c =
-    let u = c .before .before .before in
-    lays-joined _ _ (u .before .before .before .before .write-byte .ensures) (lays-integer 1 0 _ _ _ _ _ (omega arith) (u .write-u2 .ensures)) (c .join .ensures) refl
+    let y = c .before .before in
+    let x = y .before .before .before .before in
+    put-both (parted (x .before .before .before)) (x .write-byte .ensures) (y .put-u2 .ensures)
 
 pub write-lead-spec : {M : Type 1} → statement M
 write-lead-spec =
     tie.close
     (tie.spec
     write-byte-requires
-    sub-write-u2
-    part-write-u2-start
-    part-write-u2-end
-    write-u2-requires
-    join-requires
+    sub-put-u2
+    part-put-u2-start
+    part-put-u2-end
+    put-u2-requires
+    add-result
     same-length
     returns)

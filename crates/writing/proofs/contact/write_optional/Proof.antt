@@ -1,11 +1,39 @@
 -- `writing::contact::write_optional` meets its contract: the sides, and the numbers behind them.
 -- Assumes nothing.
-use mathlib.Core.List.{append-nil}
-use Rattle.touch.specs.Touch.{optional}
-use Rattle.writing.proofs.Filling.{lays-joined}
+use mathlib.Core.Bool.{cond}
+use mathlib.Core.List.{[], _++_, append-nil}
+use native.Mathlib.Omega.{arith}
+use denote.Ref.{now}
+use lib.ListN.{length}
+use Rattle.fields.specs.Integers.{taken}
+use Rattle.house.specs.WellFormed.{has}
+use Rattle.touch.specs.Touch.{sides, optional, optionalOf}
+use Rattle.messages.specs.Answer.{Put}
+use Rattle.messages.proofs.Writing.{Room}
+use Rattle.writing.proofs.Putting.{Parted, first-room, next-room, both-inside, put-both}
 use borrow.Author.Needs.{needs}
 use Rattle.writing.proofs.contact.write_optional.Statement.{statement}
 use Rattle.writing.proofs.contact.write_optional.Tie as tie
+
+parted : (c : tie.Start) → let t = c .args .touch in
+    Parted (cond (has 1 (t .present)) (sides taken .write (t .sides)) []) (cond (has 2 (t .present)) (taken .u4 .write (t .orientation)) [] ++ cond (has 4 (t .present)) (taken .u4 .write (t .pressure)) [])
+    (optional taken (t .present) .write (optionalOf t)) (now (c .args .out))
+unfolding optional
+parted c = record { same = simp append-nil; room = c .pre .1 }
+
+abbrev start : tie.After-write-sides → tie.Start
+start c = c .before .before .before .before .before
+
+four : (c : tie.After-write-sides) → let a = start c .args in
+    Put (cond (has 1 (a .touch .present)) (sides taken .write (a .touch .sides)) []) (c .write-sides .result) (now (a .out)) (c .write-sides .last .0)
+four c = rw (c .before .has-field .ensures) at (c .write-sides .ensures)
+
+after : (c : tie.After-write-sides) → let t = start c .args .touch in
+    Room (c .write-sides .last .0) (c .write-sides .result) (length (cond (has 2 (t .present)) (taken .u4 .write (t .orientation)) [] ++ cond (has 4 (t .present)) (taken .u4 .write (t .pressure)) []))
+after c = next-room (parted (start c)) (four c)
+
+abbrev up : tie.After-write-numbers → tie.After-write-sides
+up c = c .before .before .before .before
 
 cast-has-field : tie.Need-cast-has-field
 cast-has-field c = search needs
@@ -15,32 +43,35 @@ has-field-requires c κs = search needs
 
 write-sides-requires : tie.Need-write-sides-requires
 unfolding optional
-write-sides-requires c κs = rw (c .has-field .ensures) (c .before .before .before .before .pre .0)
+write-sides-requires c κs =
+    let s = c .before .before .before .before in
+    rw (c .has-field .ensures) (s .pre .0 .0, first-room (parted s))
 
 sub-write-numbers : tie.Need-sub-write-numbers
-sub-write-numbers c = search needs
+sub-write-numbers c = after (c .before .before) .start
 
 part-write-numbers-start : tie.Need-part-write-numbers-start
-part-write-numbers-start c = search needs
+part-write-numbers-start c = after (c .before .before) .start
 
 part-write-numbers-end : tie.Need-part-write-numbers-end
 part-write-numbers-end c = search needs
 
 write-numbers-requires : tie.Need-write-numbers-requires
-write-numbers-requires c κs = search needs
+write-numbers-requires c κs = after (c .before .before .before) .next
 
-join-requires : tie.Need-join-requires
-join-requires c κs = search needs
+add-result : tie.Need-add-result
+add-result c =
+    let y = c .before .before in
+    let s = start (up y) in
+    omega (arith, both-inside (parted s) (four (up y)) (y .write-numbers .ensures))
 
 same-length : tie.Need-same-length
 same-length c = search needs
 
 returns : tie.Need-returns
-unfolding optional
 returns c =
-    let w = c .before .before .before in
-    let v = w .before .before .before .before in
-    lays-joined _ _ (rw (v .before .has-field .ensures) at (v .write-sides .ensures)) (w .write-numbers .ensures) (c .join .ensures) (simp append-nil)
+    let y = c .before .before in
+    put-both (parted (start (up y))) (four (up y)) (y .write-numbers .ensures)
 
 pub write-optional-spec : {M : Type 1} → statement M
 write-optional-spec =
@@ -53,6 +84,6 @@ write-optional-spec =
     part-write-numbers-start
     part-write-numbers-end
     write-numbers-requires
-    join-requires
+    add-result
     same-length
     returns)

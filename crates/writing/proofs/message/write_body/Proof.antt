@@ -1,36 +1,59 @@
 -- `writing::message::write_body` meets its contract: the head, and the records behind it.
 -- Assumes nothing.
 use mathlib.Core.Path.{refl}
-use Rattle.writing.proofs.Filling.{lays-joined}
+use native.Mathlib.Omega.{arith}
+use denote.Ref.{now}
+use lib.ListN.{length}
+use Rattle.fields.specs.Integers.{taken}
+use Rattle.touch.specs.Touch.{touchHead}
+use Rattle.messages.proofs.Writing.{Room}
+use Rattle.writing.specs.Spelling.{spelt, bodyOf}
+use Rattle.writing.proofs.Putting.{Parted, first-room, next-room, both-inside, put-both}
 use borrow.Author.Needs.{needs}
 use Rattle.writing.proofs.message.write_body.Statement.{statement}
 use Rattle.writing.proofs.message.write_body.Tie as tie
 
+parted : (c : tie.Start) → let a = c .args in
+    Parted (touchHead taken .write (record { time = a .time; frames = a .frames })) (spelt (a .count) (a .records .now)) (bodyOf (a .time) (a .frames) (a .count) (a .records .now)) (now (a .out))
+parted c = record { same = refl; room = c .pre .2 }
+
+abbrev start : tie.After-write-touch-head → tie.Start
+start c = c .before .before .before .before
+
+after : (c : tie.After-write-touch-head) → let a = start c .args in Room (c .write-touch-head .last .0) (c .write-touch-head .result) (length (spelt (a .count) (a .records .now)))
+after c = next-room (parted (start c)) (c .write-touch-head .ensures)
+
+abbrev up : tie.After-write-records → tie.After-write-touch-head
+up c = c .before .before .before .before
+
 write-touch-head-requires : tie.Need-write-touch-head-requires
-write-touch-head-requires c κs = search needs
+write-touch-head-requires c κs = let s = c .before .before .before in (s .pre .0, first-room (parted s))
 
 sub-write-records : tie.Need-sub-write-records
-sub-write-records c = search needs
+sub-write-records c = after (c .before .before) .start
 
 part-write-records-start : tie.Need-part-write-records-start
-part-write-records-start c = search needs
+part-write-records-start c = after (c .before .before) .start
 
 part-write-records-end : tie.Need-part-write-records-end
 part-write-records-end c = search needs
 
 write-records-requires : tie.Need-write-records-requires
-write-records-requires c κs = search needs
+write-records-requires c κs = let h = c .before .before .before in (start h .pre .1, after h .next)
 
-join-requires : tie.Need-join-requires
-join-requires c κs = search needs
+add-result : tie.Need-add-result
+add-result c =
+    let y = c .before .before in
+    let s = start (up y) in
+    omega (arith, both-inside (parted s) (up y .write-touch-head .ensures) (y .write-records .ensures))
 
 same-length : tie.Need-same-length
 same-length c = search needs
 
 returns : tie.Need-returns
 returns c =
-    let w = c .before .before .before in
-    lays-joined _ _ (w .before .before .before .before .write-touch-head .ensures) (w .write-records .ensures) (c .join .ensures) refl
+    let y = c .before .before in
+    put-both (parted (start (up y))) (up y .write-touch-head .ensures) (y .write-records .ensures)
 
 pub write-body-spec : {M : Type 1} → statement M
 write-body-spec =
@@ -41,6 +64,6 @@ write-body-spec =
     part-write-records-start
     part-write-records-end
     write-records-requires
-    join-requires
+    add-result
     same-length
     returns)

@@ -2,65 +2,69 @@
 -- Assumes nothing.
 use mathlib.Core.List.{append-nil}
 use native.Mathlib.Omega.{arith}
-use Prim.Native.Nat.{_-_}
 use denote.Ref.{now}
 use lib.ListN.{length}
-use borrow.Rule.Slice.PartMut.{midOf}
 use Rattle.fields.specs.Integers.{taken}
 use Rattle.framing.specs.Format.{bodyHeadFormat}
-use Rattle.writing.specs.Filling.{WritesPart}
-use Rattle.writing.proofs.Filling.{left-by, lays-integer, lays-joined, joined-room}
+use Rattle.touch.specs.Touch.{touchHead}
+use Rattle.messages.proofs.Writing.{Room}
+use Rattle.writing.proofs.Putting.{Parted, first-room, next-room, both-inside, put-both}
 use borrow.Author.Needs.{needs}
 use Rattle.writing.proofs.message.write_touch_head.Statement.{statement}
 use Rattle.writing.proofs.message.write_touch_head.Tie as tie
 
-time : (c : tie.After-write-u4) → let a = c .before .before .before .args in
-    WritesPart (taken .u4 .write (a .time .0)) (c .write-u4 .result) (now (a .out)) (c .write-u4 .last .0)
-time c = lays-integer 2 0 _ _ _ _ _ (c .before .before .before .pre) (c .write-u4 .ensures)
+parted : (c : tie.Start) → let a = c .args in
+    Parted (taken .u4 .write (a .time .0)) (taken .u2 .write (a .frames)) (touchHead taken .write (record { time = a .time; frames = a .frames })) (now (a .out))
+unfolding bodyHeadFormat
+parted c = record { same = rw append-nil; room = c .pre .1 }
 
-abbrev up : tie.After-write-u2 → tie.After-write-u4
+abbrev start : tie.After-put-u4 → tie.Start
+start c = c .before .before .before
+
+after : (c : tie.After-put-u4) → Room (c .put-u4 .last .0) (c .put-u4 .result) (length (taken .u2 .write (start c .args .frames)))
+after c = next-room (parted (start c)) (c .put-u4 .ensures)
+
+abbrev up : tie.After-put-u2 → tie.After-put-u4
 up c = c .before .before .before .before
 
-count : (c : tie.After-write-u2) → let x = up c .write-u4 in let a = up c .before .before .before .args in
-    WritesPart (taken .u2 .write (a .frames)) (c .write-u2 .result) (midOf (x .result .bytes) (length (x .last .0) - x .result .bytes) (x .last .0)) (c .write-u2 .last .0)
-count c = lays-integer 1 0 _ _ _ _ _ (omega arith) (c .write-u2 .ensures)
+put-u4-requires : tie.Need-put-u4-requires
+put-u4-requires c κs = let s = c .before .before in (s .pre .0, first-room (parted s))
 
-write-u4-requires : tie.Need-write-u4-requires
-write-u4-requires c κs = search needs
+sub-put-u2 : tie.Need-sub-put-u2
+sub-put-u2 c = after (c .before .before) .start
 
-sub-write-u2 : tie.Need-sub-write-u2
-sub-write-u2 c = left-by (time (c .before .before))
+part-put-u2-start : tie.Need-part-put-u2-start
+part-put-u2-start c = after (c .before .before) .start
 
-part-write-u2-start : tie.Need-part-write-u2-start
-part-write-u2-start c = left-by (time (c .before .before))
+part-put-u2-end : tie.Need-part-put-u2-end
+part-put-u2-end c = search needs
 
-part-write-u2-end : tie.Need-part-write-u2-end
-part-write-u2-end c = search needs
+put-u2-requires : tie.Need-put-u2-requires
+put-u2-requires c κs = (omega arith, after (c .before .before .before) .next)
 
-write-u2-requires : tie.Need-write-u2-requires
-write-u2-requires c κs = search needs
-
-join-requires : tie.Need-join-requires
-join-requires c κs = omega (arith, joined-room (time (up (c .before .before))) (count (c .before .before)))
+add-result : tie.Need-add-result
+add-result c =
+    let y = c .before .before in
+    let s = start (up y) in
+    omega (arith, both-inside (parted s) (up y .put-u4 .ensures) (y .put-u2 .ensures))
 
 same-length : tie.Need-same-length
 same-length c = search needs
 
 returns : tie.Need-returns
-unfolding bodyHeadFormat
 returns c =
-    let y = c .before .before .before in
-    lays-joined _ _ (time (up y)) (count y) (c .join .ensures) (rw append-nil)
+    let y = c .before .before in
+    put-both (parted (start (up y))) (up y .put-u4 .ensures) (y .put-u2 .ensures)
 
 pub write-touch-head-spec : {M : Type 1} → statement M
 write-touch-head-spec =
     tie.close
     (tie.spec
-    write-u4-requires
-    sub-write-u2
-    part-write-u2-start
-    part-write-u2-end
-    write-u2-requires
-    join-requires
+    put-u4-requires
+    sub-put-u2
+    part-put-u2-start
+    part-put-u2-end
+    put-u2-requires
+    add-result
     same-length
     returns)

@@ -4,71 +4,88 @@ use Prim.Native.Nat.{_-_}
 use mathlib.Core.List.{append-nil}
 use native.Mathlib.Omega.{arith}
 use denote.Ref.{now}
-use lib.ListN.{length}
 use mir.Syntax.{w32}
-use mir.ValLaws.{toZ-ofZ}
+use mir.Val.{SFits}
+use mir.Facts.{toZ-ofZ}
+use lib.ListN.{length}
 use borrow.Rule.Slice.PartMut.{midOf}
 use Rattle.fields.specs.Integers.{taken}
 use Rattle.touch.specs.Touch.{point}
-use Rattle.writing.specs.Filling.{WritesPart}
-use Rattle.writing.proofs.Filling.{left-by, lays-integer, lays-joined, joined-room}
+use Rattle.messages.specs.Answer.{Put}
+use Rattle.messages.proofs.Writing.{Room}
+use Rattle.writing.proofs.Putting.{Parted, first-room, next-room, both-inside, put-both}
 use borrow.Author.Needs.{needs}
 use Rattle.writing.proofs.parts.write_point.Statement.{statement}
 use Rattle.writing.proofs.parts.write_point.Tie as tie
 
-x-fills : (c : tie.After-write-s4) → let a = c .before .before .before .before .args in
-    WritesPart (taken .s4 .write (a .place .x)) (c .write-s4 .result) (now (a .out)) (c .write-s4 .last .0)
+parted : (c : tie.Start) → let a = c .args in Parted (taken .s4 .write (a .place .x)) (taken .s4 .write (a .place .y)) (point taken .write (a .place)) (now (a .out))
 unfolding point
-x-fills c =
-    let s = c .before .before .before .before in
-    lays-integer 2 1 _ _ _ _ _ (s .pre .0) (rw (toZ-ofZ w32 (s .args .place .x) (record { sfits = c .before .struct-told .given .0 .1 })) at (c .write-s4 .ensures))
+parted c = record { same = rw append-nil; room = c .pre .1 }
 
-abbrev up : tie.After-write-s42 → tie.After-write-s4
+abbrev start : tie.After-struct-told → tie.Start
+start c = c .before .before .before
+
+-- x and y are of 32 bits
+fit-x : (c : tie.After-struct-told) → SFits w32 (start c .args .place .x)
+fit-x c = record { sfits = c .struct-told .given .0 .1 }
+
+fit-y : (c : tie.After-struct-told) → SFits w32 (start c .args .place .y)
+fit-y c = record { sfits = c .struct-told .given .1 .0 .1 }
+
+put-x : (c : tie.After-put-s4) → let a = start (c .before) .args in Put (taken .s4 .write (a .place .x)) (c .put-s4 .result) (now (a .out)) (c .put-s4 .last .0)
+put-x c = rw (toZ-ofZ (fit-x (c .before))) at (c .put-s4 .ensures)
+
+after : (c : tie.After-put-s4) → Room (c .put-s4 .last .0) (c .put-s4 .result) (length (taken .s4 .write (start (c .before) .args .place .y)))
+after c = next-room (parted (start (c .before))) (put-x c)
+
+abbrev up : tie.After-put-s42 → tie.After-put-s4
 up c = c .before .before .before .before .before
 
-y-fills : (c : tie.After-write-s42) → let x = up c .write-s4 in let a = up c .before .before .before .before .args in
-    WritesPart (taken .s4 .write (a .place .y)) (c .write-s42 .result) (midOf (x .result .bytes) (length (x .last .0) - x .result .bytes) (x .last .0)) (c .write-s42 .last .0)
+put-y : (c : tie.After-put-s42) → let x = up c .put-s4 in
+    Put (taken .s4 .write (start (up c .before) .args .place .y)) (c .put-s42 .result) (midOf (x .result) (length (x .last .0) - x .result) (x .last .0)) (c .put-s42 .last .0)
+put-y c = rw (toZ-ofZ (fit-y (up c .before))) at (c .put-s42 .ensures)
+
+put-s4-requires : tie.Need-put-s4-requires
 unfolding point
-y-fills c =
-    let s = up c .before .before .before .before in
-    lays-integer 2 1 _ _ _ _ _ (s .pre .1 .0) (rw (toZ-ofZ w32 (s .args .place .y) (record { sfits = c .before .struct-told2 .given .1 .0 .1 })) at (c .write-s42 .ensures))
+put-s4-requires c κs = rw (toZ-ofZ (fit-x c)) (start c .pre .0 .0, first-room (parted (start c)))
 
-write-s4-requires : tie.Need-write-s4-requires
-write-s4-requires c κs = search needs
+sub-put-s4 : tie.Need-sub-put-s4
+sub-put-s4 c = after (c .before .before) .start
 
-sub-write-s4 : tie.Need-sub-write-s4
-sub-write-s4 c = left-by (x-fills (c .before .before))
+part-put-s4-start : tie.Need-part-put-s4-start
+part-put-s4-start c = after (c .before .before) .start
 
-part-write-s4-start : tie.Need-part-write-s4-start
-part-write-s4-start c = left-by (x-fills (c .before .before))
+part-put-s4-end : tie.Need-part-put-s4-end
+part-put-s4-end c = search needs
 
-part-write-s4-end : tie.Need-part-write-s4-end
-part-write-s4-end c = search needs
+put-s4-requires-2 : tie.Need-put-s4-requires-2
+unfolding point
+put-s4-requires-2 c κs =
+    let f = c .before .before .before .before in
+    rw (toZ-ofZ (fit-y (f .before))) (start (f .before) .pre .0 .1 .0, after f .next)
 
-write-s4-requires-2 : tie.Need-write-s4-requires-2
-write-s4-requires-2 c κs = search needs
-
-join-requires : tie.Need-join-requires
-join-requires c κs = omega (arith, joined-room (x-fills (up (c .before .before))) (y-fills (c .before .before)))
+add-result : tie.Need-add-result
+add-result c =
+    let y = c .before .before in
+    omega (arith, both-inside (parted (start (up y .before))) (put-x (up y)) (put-y y))
 
 same-length : tie.Need-same-length
 same-length c = search needs
 
 returns : tie.Need-returns
-unfolding point
 returns c =
-    let y = c .before .before .before in
-    lays-joined _ _ (x-fills (up y)) (y-fills y) (c .join .ensures) (rw append-nil)
+    let y = c .before .before in
+    put-both (parted (start (up y .before))) (put-x (up y)) (put-y y)
 
 pub write-point-spec : {M : Type 1} → statement M
 write-point-spec =
     tie.close
     (tie.spec
-    write-s4-requires
-    sub-write-s4
-    part-write-s4-start
-    part-write-s4-end
-    write-s4-requires-2
-    join-requires
+    put-s4-requires
+    sub-put-s4
+    part-put-s4-start
+    part-put-s4-end
+    put-s4-requires-2
+    add-result
     same-length
     returns)

@@ -1,7 +1,7 @@
 -- `writing::parts::write_sides` meets its contract: the sides, or nothing.
 -- Assumes nothing.
-use Rattle.writing.proofs.Filling.{lays-there, lays-absent}
 use borrow.Author.Needs.{needs}
+use Rattle.writing.proofs.Putting.{put-none}
 use Rattle.writing.proofs.parts.write_sides.Statement.{statement}
 use Rattle.writing.proofs.parts.write_sides.Tie as tie
 
@@ -12,14 +12,10 @@ same-length : tie.Need-same-length
 same-length c = search needs
 
 returns : tie.Need-returns
-returns c = lays-there _ _ _ _ _ (c .before .before .before .before .if1 .taken) (c .before .before .write-four .ensures)
-
-refused-requires : tie.Need-refused-requires
-refused-requires c κs = search needs
+returns c = rw (c .before .before .before .before .if1 .taken) (c .before .before .write-four .ensures)
 
 returns-2 : tie.Need-returns-2
-returns-2 c = lays-absent _ _ _ _ (c .before .if1 .left) (c .refused .ensures)
+returns-2 c = rw (c .if1 .left) (put-none _)
 
 pub write-sides-spec : {M : Type 1} → statement M
-write-sides-spec =
-    tie.close (tie.spec write-four-requires same-length returns refused-requires returns-2)
+write-sides-spec = tie.close (tie.spec write-four-requires same-length returns returns-2)

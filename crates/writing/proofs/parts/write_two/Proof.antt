@@ -2,67 +2,80 @@
 -- Assumes nothing.
 use Prim.Native.Nat.{_-_}
 use mathlib.Core.Path.{refl}
+use mathlib.Core.List.{_++_}
 use native.Mathlib.Omega.{arith}
 use denote.Ref.{now}
 use mir.Facts.{toZ-ofZ}
 use lib.ListN.{length}
 use borrow.Rule.Slice.PartMut.{midOf}
 use Rattle.fields.specs.Integers.{taken}
-use Rattle.writing.specs.Filling.{WritesPart}
-use Rattle.writing.proofs.Filling.{left-by, lays-integer, lays-joined, joined-room}
+use Rattle.messages.specs.Answer.{Put}
+use Rattle.messages.proofs.Writing.{Room}
+use Rattle.writing.proofs.Putting.{Parted, first-room, next-room, both-inside, put-both}
 use borrow.Author.Needs.{needs}
 use Rattle.writing.proofs.parts.write_two.Statement.{statement}
 use Rattle.writing.proofs.parts.write_two.Tie as tie
 
-one : (c : tie.After-write-s2) → let a = c .before .before .before .args in WritesPart (taken .s2 .write (a .first)) (c .write-s2 .result) (now (a .out)) (c .write-s2 .last .0)
-one c =
-    let s = c .before .before .before in
-    lays-integer 1 1 _ _ _ _ _ (s .pre .0) (rw (toZ-ofZ (s .fits .first)) at (c .write-s2 .ensures))
+parted : (c : tie.Start) → let a = c .args in Parted (taken .s2 .write (a .first)) (taken .s2 .write (a .second)) (taken .s2 .write (a .first) ++ taken .s2 .write (a .second)) (now (a .out))
+parted c = record { same = refl; room = c .pre .2 }
 
-abbrev up : tie.After-write-s22 → tie.After-write-s2
+abbrev start : tie.After-put-s2 → tie.Start
+start c = c .before .before .before
+
+one : (c : tie.After-put-s2) → let a = start c .args in Put (taken .s2 .write (a .first)) (c .put-s2 .result) (now (a .out)) (c .put-s2 .last .0)
+one c = rw (toZ-ofZ (start c .fits .first)) at (c .put-s2 .ensures)
+
+after : (c : tie.After-put-s2) → Room (c .put-s2 .last .0) (c .put-s2 .result) (length (taken .s2 .write (start c .args .second)))
+after c = next-room (parted (start c)) (one c)
+
+abbrev up : tie.After-put-s22 → tie.After-put-s2
 up c = c .before .before .before .before
 
-two : (c : tie.After-write-s22) → let x = up c .write-s2 in let a = up c .before .before .before .args in
-    WritesPart (taken .s2 .write (a .second)) (c .write-s22 .result) (midOf (x .result .bytes) (length (x .last .0) - x .result .bytes) (x .last .0)) (c .write-s22 .last .0)
-two c =
-    let s = up c .before .before .before in
-    lays-integer 1 1 _ _ _ _ _ (s .pre .1) (rw (toZ-ofZ (s .fits .second)) at (c .write-s22 .ensures))
+two : (c : tie.After-put-s22) → let x = up c .put-s2 in
+    Put (taken .s2 .write (start (up c) .args .second)) (c .put-s22 .result) (midOf (x .result) (length (x .last .0) - x .result) (x .last .0)) (c .put-s22 .last .0)
+two c = rw (toZ-ofZ (start (up c) .fits .second)) at (c .put-s22 .ensures)
 
-write-s2-requires : tie.Need-write-s2-requires
-write-s2-requires c κs = search needs
+put-s2-requires : tie.Need-put-s2-requires
+put-s2-requires c κs =
+    let s = c .before .before in
+    rw (toZ-ofZ (s .fits .first)) (s .pre .0, first-room (parted s))
 
-sub-write-s2 : tie.Need-sub-write-s2
-sub-write-s2 c = left-by (one (c .before .before))
+sub-put-s2 : tie.Need-sub-put-s2
+sub-put-s2 c = after (c .before .before) .start
 
-part-write-s2-start : tie.Need-part-write-s2-start
-part-write-s2-start c = left-by (one (c .before .before))
+part-put-s2-start : tie.Need-part-put-s2-start
+part-put-s2-start c = after (c .before .before) .start
 
-part-write-s2-end : tie.Need-part-write-s2-end
-part-write-s2-end c = search needs
+part-put-s2-end : tie.Need-part-put-s2-end
+part-put-s2-end c = search needs
 
-write-s2-requires-2 : tie.Need-write-s2-requires-2
-write-s2-requires-2 c κs = search needs
+put-s2-requires-2 : tie.Need-put-s2-requires-2
+put-s2-requires-2 c κs =
+    let f = c .before .before .before in
+    rw (toZ-ofZ (start f .fits .second)) (start f .pre .1, after f .next)
 
-join-requires : tie.Need-join-requires
-join-requires c κs = omega (arith, joined-room (one (up (c .before .before))) (two (c .before .before)))
+add-result : tie.Need-add-result
+add-result c =
+    let y = c .before .before in
+    omega (arith, both-inside (parted (start (up y))) (one (up y)) (two y))
 
 same-length : tie.Need-same-length
 same-length c = search needs
 
 returns : tie.Need-returns
 returns c =
-    let y = c .before .before .before in
-    lays-joined _ _ (one (up y)) (two y) (c .join .ensures) refl
+    let y = c .before .before in
+    put-both (parted (start (up y))) (one (up y)) (two y)
 
 pub write-two-spec : {M : Type 1} → statement M
 write-two-spec =
     tie.close
     (tie.spec
-    write-s2-requires
-    sub-write-s2
-    part-write-s2-start
-    part-write-s2-end
-    write-s2-requires-2
-    join-requires
+    put-s2-requires
+    sub-put-s2
+    part-put-s2-start
+    part-put-s2-end
+    put-s2-requires-2
+    add-result
     same-length
     returns)

@@ -1,6 +1,7 @@
 -- `writing::spell::write_record` meets its contract: the fields of the record that stands there.
 -- Assumes nothing.
 use mathlib.Core.Path.{sym, _∙_}
+use Rattle.writing.proofs.Putting.{put-none}
 use borrow.Author.Needs.{needs}
 use Rattle.writing.proofs.spell.write_record.Statement.{statement}
 use Rattle.writing.proofs.spell.write_record.Tie as tie
@@ -13,24 +14,21 @@ enum-known-head c = search needs
 
 write-frame-head-requires : tie.Need-write-frame-head-requires
 write-frame-head-requires c κs =
-    let m = c .before .before .before in
-    let r = m .before in
-    rw (sym (r .read-record .ensures) ∙ c .before .before .head .given .1) at (r .before .before .before .pre)
+    let h = c .before .before in
+    let r = h .before .before in
+    rw (sym (r .read-record .ensures) ∙ h .head .given .1) at (r .before .before .before .pre)
 
 enum-known-contact : tie.Need-enum-known-contact
 enum-known-contact c = search needs
 
 write-contact-requires : tie.Need-write-contact-requires
 write-contact-requires c κs =
-    let m = c .before .before .before in
-    let r = m .before in
-    rw (sym (r .read-record .ensures) ∙ c .before .before .contact .given .1) at (r .before .before .before .pre)
+    let h = c .before .before in
+    let r = h .before .before in
+    rw (sym (r .read-record .ensures) ∙ h .contact .given .1) at (r .before .before .before .pre)
 
-enum-known-e : tie.Need-enum-known-e
-enum-known-e c = search needs
-
-refused-requires : tie.Need-refused-requires
-refused-requires c κs = search needs
+enum-told : tie.Need-enum-told
+enum-told c = search needs
 
 same-length : tie.Need-same-length
 same-length c = search needs
@@ -51,10 +49,7 @@ returns-2 c =
     rw (sym (h .before .before .read-record .ensures) ∙ h .contact .given .1) (w .write-contact .ensures)
 
 returns-3 : tie.Need-returns-3
-returns-3 c =
-    let h = c .before .before in
-    let r = h .before .before in
-    absurd (rw (sym (r .read-record .ensures) ∙ h .e .given .1) at (r .before .before .before .pre))
+returns-3 c = rw (sym (c .before .before .read-record .ensures) ∙ c .enum-told .given .1) (put-none _)
 
 pub write-record-spec : {M : Type 1} → statement M
 write-record-spec =
@@ -65,8 +60,7 @@ write-record-spec =
     write-frame-head-requires
     enum-known-contact
     write-contact-requires
-    enum-known-e
-    refused-requires
+    enum-told
     same-length
     returns
     same-length-2

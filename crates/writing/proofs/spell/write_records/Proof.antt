@@ -1,17 +1,16 @@
 -- `writing::spell::write_records` meets its contract. The loop keeps: what is left of the records is what is still to be written.
 -- Assumes nothing.
-use Prim.Native.Nat.{_≤_, _+_, _-_}
-use mathlib.Core.List.{_++_}
-use borrow.Rule.Slice.PartMut.{midOf, putMid}
-use Rattle.writing.specs.Filling.{WritesPart}
+use Prim.Native.Nat.{ℕ, _≤_, _+_, _-_}
+use mathlib.Core.List.{List, _++_}
 use native.Mathlib.Omega.{arith}
-use lib.ListN.{length, drop, length-drop}
-use lib.Seq.{drop-drop}
+use lib.ListN.{length, drop}
+use borrow.Rule.Slice.PartMut.{putMid}
 use Rattle.formats.proofs.Steps.{tail}
 use Rattle.house.specs.Layout.{recordOf}
+use Rattle.messages.proofs.Writing.{Room}
 use Rattle.writing.specs.Spelling.{spelling, spelt, Spelt}
-use Rattle.writing.proofs.Filling.{Partly, partly-none, partly-inside, partly-more, partly-stop, partly-all}
-use Rattle.writing.proofs.Spelt.{spelt-none, spelt-more, Next, next}
+use Rattle.writing.proofs.Putting.{Partly, partly-none, partly-room, partly-more, partly-all}
+use Rattle.writing.proofs.Spelt.{spelt-none, Next, next}
 use borrow.Author.Needs.{needs}
 use Rattle.writing.proofs.spell.write_records.Statement.{statement}
 use Rattle.writing.proofs.spell.write_records.Tie as tie
@@ -23,55 +22,44 @@ Inv-loop out₀ records count at₀ from₀ left₀ out at from left =
 abbrev μ-loop : tie.MeasureT-loop
 μ-loop out₀ records count at₀ from₀ left₀ out at from left = left
 
--- the record of this turn, and that it is not past the end
-here : (c : tie.In-loop Inv-loop μ-loop) → let p = c .before in Next (p .loop .left) (drop (p .loop .from) (p .before .before .before .args .records .now))
-here c = next _ _ (c .loop-test .taken) (c .before .loop .inv .1)
+abbrev start : tie.At-loop Inv-loop μ-loop → tie.Start Inv-loop μ-loop
+start p = p .before .before .before
 
-beyond : (c : tie.In-loop Inv-loop μ-loop) → let p = c .before in p .loop .from + 21 ≤ length (p .before .before .before .args .records .now)
-beyond c =
-    let p = c .before in
-    omega (arith, here c .long, length-drop (p .loop .from) (p .before .before .before .args .records .now), p .loop .inv .2)
+-- the record of this turn
+here : (c : tie.In-loop Inv-loop μ-loop) → let p = c .before in Next (p .loop .left) (p .loop .from) (start p .args .records .now)
+here c = let p = c .before in next _ _ _ (c .loop-test .taken) (p .loop .inv .2) (p .loop .inv .1)
 
--- what is still to be written is its fields and then the others'
-togo : (c : tie.In-loop Inv-loop μ-loop) → let p = c .before in let a = p .before .before .before .args in
-    Partly (spelt (a .count) (a .records .now)) (spelling (recordOf (drop (p .loop .from) (a .records .now))) ++ spelt (p .loop .left - 1) (drop (p .loop .from + 21) (a .records .now))) (a .out .now) (p .loop .out) (p .loop .at)
-togo c =
-    let p = c .before in
-    let a = p .before .before .before .args in
-    rw (spelt-more (p .loop .left) (drop (p .loop .from) (a .records .now)) (c .loop-test .taken), drop-drop 21 (p .loop .from) (a .records .now)) at (p .loop .inv .0)
+-- its fields, and then the others'
+abbrev these : tie.In-loop Inv-loop μ-loop → List ℕ
+these c = let p = c .before in spelling (recordOf (drop (p .loop .from) (start p .args .records .now)))
 
-wrote : (c : tie.After-write-record Inv-loop μ-loop) → let p = c .before .before .before .before in
-    WritesPart (spelling (recordOf (drop (p .loop .from) (p .before .before .before .args .records .now)))) (c .write-record .result) (midOf (p .loop .at) (length (p .loop .out) - p .loop .at) (p .loop .out)) (c .write-record .last .0)
-wrote c =
-    let p = c .before .before .before .before in
-    rw (tail (p .before .before .before .args .records .now) (p .loop .from)) at (c .write-record .ensures)
+abbrev others : tie.In-loop Inv-loop μ-loop → List ℕ
+others c = let p = c .before in spelt (p .loop .left - 1) (drop (p .loop .from + 21) (start p .args .records .now))
 
-stopped : (c : tie.Then1 Inv-loop μ-loop) → let w = c .before .before .before .before in let p = w .before .before .before .before in let a = p .before .before .before .args in
-    WritesPart (spelt (a .count) (a .records .now)) (w .write-record .result) (a .out .now) (putMid (p .loop .at) (length (p .loop .out) - p .loop .at) (p .loop .out) (w .write-record .last .0))
-stopped c =
-    let w = c .before .before .before .before in
-    partly-stop _ _ (togo (w .before .before .before)) (wrote w) (c .if1 .taken)
+togo : (c : tie.In-loop Inv-loop μ-loop) → let p = c .before in let a = start p .args in Partly (spelt (a .count) (a .records .now)) (these c ++ others c) (a .out .now) (p .loop .out) (p .loop .at)
+togo c = rw (here c .same) at (c .before .loop .inv .0)
 
-more : (c : tie.After-struct-known2 Inv-loop μ-loop) → let w = c .before .before .before .before .before in let p = w .before .before .before .before in let a = p .before .before .before .args in
-    Partly (spelt (a .count) (a .records .now)) (spelt (p .loop .left - 1) (drop (p .loop .from + 21) (a .records .now))) (a .out .now) (putMid (p .loop .at) (length (p .loop .out) - p .loop .at) (p .loop .out) (w .write-record .last .0)) (p .loop .at + w .write-record .result .bytes)
+free : (c : tie.In-loop Inv-loop μ-loop) → Room (c .before .loop .out) (c .before .loop .at) (length (these c))
+free c = partly-room (these c) (others c) (togo c)
+
+abbrev turn : tie.After-write-record Inv-loop μ-loop → tie.In-loop Inv-loop μ-loop
+turn c = c .before .before .before
+
+more : (c : tie.After-write-record Inv-loop μ-loop) → let p = turn c .before in let a = start p .args in
+    Partly (spelt (a .count) (a .records .now)) (others (turn c)) (a .out .now)
+    (putMid (p .loop .at) (length (p .loop .out) - p .loop .at) (p .loop .out) (c .write-record .last .0)) (p .loop .at + c .write-record .result)
 more c =
-    let w = c .before .before .before .before .before in
-    partly-more _ _ (togo (w .before .before .before)) (wrote w) (c .before .if1 .left)
-
-ended : (c : tie.After-loop Inv-loop μ-loop) → let p = c .before in let a = p .before .before .before .args in
-    WritesPart (spelt (a .count) (a .records .now)) (record { refusal = 0; bytes = p .loop .at }) (a .out .now) (p .loop .out)
-ended c =
-    let p = c .before in
-    partly-all (rw (spelt-none (p .loop .left) (drop (p .loop .from) (p .before .before .before .args .records .now)) (c .loop-test .left)) at (p .loop .inv .0))
+    let p = turn c .before in
+    partly-more (these (turn c)) (others (turn c)) (togo (turn c)) (rw (tail (start p .args .records .now) (p .loop .from)) at (c .write-record .ensures))
 
 loop-holds : tie.Need-loop-holds Inv-loop μ-loop
-loop-holds c = (partly-none _ _, c .before .before .pre, omega arith)
+loop-holds c = let s = c .before .before in (partly-none _ _ (s .pre .1), s .pre .0, omega arith)
 
 sub-write-record : tie.Need-sub-write-record Inv-loop μ-loop
-sub-write-record c = partly-inside (c .before .loop .inv .0)
+sub-write-record c = free c .start
 
 part-write-record-start : tie.Need-part-write-record-start Inv-loop μ-loop
-part-write-record-start c = partly-inside (c .before .loop .inv .0)
+part-write-record-start c = free c .start
 
 part-write-record-end : tie.Need-part-write-record-end Inv-loop μ-loop
 part-write-record-end c = search needs
@@ -88,19 +76,16 @@ part-write-record-end-2 c = search needs
 write-record-requires : tie.Need-write-record-requires Inv-loop μ-loop
 write-record-requires c κs =
     let i = c .before .before in
-    rw (tail (i .before .before .before .before .args .records .now) (i .before .loop .from)) (here i .now)
-
-same-length : tie.Need-same-length Inv-loop μ-loop
-same-length c = stopped c .kept
-
-returns : tie.Need-returns Inv-loop μ-loop
-returns c = stopped c
+    rw (tail (start (i .before) .args .records .now) (i .before .loop .from)) (here i .now, free i .next)
 
 add-at : tie.Need-add-at Inv-loop μ-loop
-add-at c = omega (arith, more c .room)
+add-at c =
+    let w = c .before .before in
+    let s = start (turn w .before) in
+    omega (arith, more w .count, s .pre .1)
 
 add-from : tie.Need-add-from Inv-loop μ-loop
-add-from c = omega (arith, beyond (c .before .before .before .before .before .before .before .before))
+add-from c = omega (arith, here (turn (c .before .before)) .inside)
 
 sub-left : tie.Need-sub-left Inv-loop μ-loop
 sub-left c = search needs
@@ -110,15 +95,16 @@ loop-less c = search needs
 
 loop-again : tie.Need-loop-again Inv-loop μ-loop
 loop-again c =
-    let i = c .before .before .before .before .before .before .before .before in
-    let a = i .before .before .before .before .args in
-    (more c, rw (drop-drop 21 (i .before .loop .from) (a .records .now)) at (here i .others), beyond i)
+    let w = c .before .before in
+    (more w, here (turn w) .others, here (turn w) .inside)
 
-same-length-2 : tie.Need-same-length-2 Inv-loop μ-loop
-same-length-2 c = ended c .kept
+same-length : tie.Need-same-length Inv-loop μ-loop
+same-length c = c .before .loop .inv .0 .long
 
-returns-2 : tie.Need-returns-2 Inv-loop μ-loop
-returns-2 c = ended c
+returns : tie.Need-returns Inv-loop μ-loop
+returns c =
+    let p = c .before in
+    partly-all (rw (spelt-none (p .loop .left) (drop (p .loop .from) (start p .args .records .now)) (c .loop-test .left)) at (p .loop .inv .0))
 
 pub write-records-spec : {M : Type 1} → statement M
 write-records-spec =
@@ -134,12 +120,10 @@ write-records-spec =
     part-write-record-start-2
     part-write-record-end-2
     write-record-requires
-    same-length
-    returns
     add-at
     add-from
     sub-left
     loop-less
     loop-again
-    same-length-2
-    returns-2)
+    same-length
+    returns)

@@ -1,4 +1,4 @@
--- `integers::write::split` meets its contract: the opposite, taken at a wider width, is the magnitude.
+-- `integers::common::split` meets its contract: the opposite, taken at a wider width, is the magnitude.
 -- Assumes nothing.
 use Prim.Native.Nat.{ℕ, suc, _^_, _<_}
 use mathlib.Core.Path.{_≡_, refl, sym, ap}
@@ -9,8 +9,8 @@ use mir.Val.{SFits, hbits}
 use mir.Facts.{toZ-ofZ, sfits-widen}
 use Rattle.integers.specs.Answer.{minus}
 use Rattle.integers.proofs.Signed.{is-below, is-above, cast-fits, opposite-fits, opposite-back}
-use Rattle.integers.proofs.write.split.Statement.{statement}
-use Rattle.integers.proofs.write.split.Tie as tie
+use Rattle.integers.proofs.common.split.Statement.{statement}
+use Rattle.integers.proofs.common.split.Tie as tie
 
 wide : (c : tie.Start) → SFits w64 (c .args .z)
 wide c = sfits-widen tt (c .fits .z)

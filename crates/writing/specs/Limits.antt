@@ -1,0 +1,6 @@
+-- How many records a message can be of: a head for each frame, and its contacts.
+use Prim.Native.Nat.{ℕ, _+_, _*_}
+use Rattle.touch.specs.Limits.{mostFrames, mostContacts}
+
+abbrev pub mostRecords : ℕ
+mostRecords = mostFrames * (1 + mostContacts)

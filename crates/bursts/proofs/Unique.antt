@@ -5,10 +5,14 @@ use mathlib.Core.Path.{_≡_, refl, sym, ap, _∙_}
 use mathlib.Core.Bool.{Bool, true, false}
 use mathlib.Core.List.{List}
 use lib.ListN.{length}
+use Rattle.machine.specs.Table.{Table}
 use Rattle.receiver.specs.declared.Receiver.{Receiver}
+use Rattle.receiver.specs.Events.{marksOf, ofParts}
+use Rattle.receiver.specs.History.{tableOf}
 use Rattle.intake.specs.declared.Fed.{Fed}
 use Rattle.intake.proofs.Unique.{feeds-unique}
 use Rattle.bursts.specs.declared.Batch.{Batch}
+use Rattle.bursts.specs.declared.BatchTurn.{BatchTurn}
 use Rattle.bursts.specs.Batch.{batched, FeedsAll, FeedsNone, ReceivesAll}
 
 pub record Same (p q : Receiver) (b c : Batch) (a a′ o o′ : List ℕ) : Type 0 where
@@ -43,3 +47,18 @@ module _ (r : Receiver) (buffer : List ℕ) (p q : Receiver) (b c : Batch) (a₀
       go : (w : Bool) → batched buffer (length a₀) ≡ w → Same p q b c a a′ o o′
       go true e = all-unique (x .fed e) (y .fed e)
       go false e = none-unique (x .refused e) (y .refused e)
+
+-- .. and where the receiver is lent in parts, in its marks and in its contacts
+pub receive-all-parts-unique : (r : Receiver) (buffer : List ℕ) (m n : BatchTurn) (t u : Table) (a₀ a a′ o₀ o o′ : List ℕ)
+    → ReceivesAll r buffer (ofParts (m .marks) t) (m .batch) a₀ a o₀ o → ReceivesAll r buffer (ofParts (n .marks) u) (n .batch) a₀ a′ o₀ o′
+    → (m ≡ n) × (t ≡ u) × (a ≡ a′) × (o ≡ o′)
+receive-all-parts-unique r buffer m n t u a₀ a a′ o₀ o o′ x y =
+    let e = receive-all-unique r buffer _ _ _ _ a₀ a a′ o₀ o o′ x y in (
+      λ i. record {
+        marks = marksOf (e .receiver i);
+        batch = e .batch i;
+      },
+      λ i. tableOf (e .receiver i),
+      e .answers,
+      e .output,
+    )

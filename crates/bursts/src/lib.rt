@@ -1,8 +1,11 @@
 // A burst of messages in one call: a buffer of bench-file entries, fed to one receiver, with an answer for each.
 use entries::Front;
+use receiver::Marks;
 use receiver::Receiver;
 ghost use mathlib.Core.Path.{_≡_};
 ghost use lib.ListN.{length};
+ghost use Rattle.contacts.specs.Ruling.{tableFrom};
+ghost use Rattle.receiver.specs.Events.{ofParts};
 ghost use Rattle.intake.specs.Feeding.{entryBytes};
 ghost use Rattle.bursts.specs.Batch.{messagesIn, batched, ReceivesAll};
 
@@ -17,6 +20,13 @@ pub struct Batch {
 // The receiver after a batch, and the answer.
 pub struct ReceivedAll {
     pub receiver: Receiver,
+    pub batch: Batch,
+}
+
+// The marks after a batch, and the answer.
+#[repr(C)]
+pub struct BatchTurn {
+    pub marks: Marks,
     pub batch: Batch,
 }
 
@@ -56,7 +66,42 @@ fn is_batch(buffer: &[u8], numbers: usize) -> bool
     counted.entries <= numbers / intake::ANSWER_NUMBERS
 }
 
-// Feeds all entries of a buffer to a receiver, each with the output that is left; or refuses them all, before any is fed.
+// Feeds all entries of a buffer to a receiver that is lent in parts, each with the output that is left; or refuses them all, before any
+// is fed.
+pub fn receive_all_parts(
+    marks: Marks,
+    buffer: &[u8],
+    answers: &mut [u32],
+    output: &mut [u8],
+    states: &mut [u8; 256],
+    xs: &mut [i32; 256],
+    ys: &mut [i32; 256],
+) -> BatchTurn
+    ensures { λ r. ⌜ ReceivesAll (ofParts marks (tableFrom (now (states .entry)) (now (xs .entry)) (now (ys .entry)))) (now (buffer .entry)) (ofParts (r .marks) (tableFrom (now (states .exit)) (now (xs .exit)) (now (ys .exit)))) (r .batch) (now (answers .entry)) (now (answers .exit)) (now (output .entry)) (now (output .exit)) ⌝ }
+{
+    if !is_batch(buffer, answers.len()) {
+        return BatchTurn {
+            marks: marks,
+            batch: Batch {
+                refusal: paper::BAD_BATCH,
+                entries: 0,
+                records: 0,
+            },
+        };
+    }
+    let fed = intake::feed_parts(marks, buffer, 0, answers, output, states, xs, ys);
+    let after = fed.marks;
+    BatchTurn {
+        marks: after,
+        batch: Batch {
+            refusal: 0,
+            entries: fed.entries,
+            records: fed.records,
+        },
+    }
+}
+
+// Feeds all entries of a buffer to a receiver, by value.
 pub fn receive_all(
     receiver: Receiver,
     buffer: &[u8],
@@ -65,24 +110,22 @@ pub fn receive_all(
 ) -> ReceivedAll
     ensures { λ r. ⌜ ReceivesAll receiver (now (buffer .entry)) (r .receiver) (r .batch) (now (answers .entry)) (now (answers .exit)) (now (output .entry)) (now (output .exit)) ⌝ }
 {
-    if !is_batch(buffer, answers.len()) {
-        return ReceivedAll {
-            receiver: receiver,
-            batch: Batch {
-                refusal: paper::BAD_BATCH,
-                entries: 0,
-                records: 0,
-            },
-        };
-    }
-    let fed = intake::take_entries(receiver, buffer, 0, answers, output);
-    let after = fed.receiver;
+    let mut states = receiver.states;
+    let mut xs = receiver.xs;
+    let mut ys = receiver.ys;
+    let marks = receiver::marks_of(receiver);
+    let turn = receive_all_parts(
+        marks,
+        buffer,
+        answers,
+        output,
+        &mut states,
+        &mut xs,
+        &mut ys,
+    );
+    let batch = turn.batch;
     ReceivedAll {
-        receiver: after,
-        batch: Batch {
-            refusal: 0,
-            entries: fed.entries,
-            records: fed.records,
-        },
+        receiver: receiver::of_parts(turn.marks, states, xs, ys),
+        batch: batch,
     }
 }

@@ -70,17 +70,7 @@ fed-few least (suc k) r file room =
     let x = sentFrom n file room in
     omega (arith, fed-few least k (next r x) (drop (n + 2) file) (room - length (wrote r x)))
 
--- they lie within the file
-pub fed-inside : (least k : ℕ) (r : Receiver) (file : List ℕ) (room : ℕ) → entryBytes (messagesOf (fedFrom least k r file room)) ≤ length file
-unfolding fedFrom entryBytes
-fed-inside least zero r file room = omega arith
-fed-inside least (suc k) r file room =
-    by-front (λ h. entryBytes (messagesOf h) ≤ length file) (nextIn least file room) _ (omega arith) λ n e.
-    let x = sentFrom n file room in
-    let i = next-inside least file room n e in
-    omega (arith, fed-inside least k (next r x) (drop (n + 2) file) (room - length (wrote r x)), entry-message-long file n i, length-drop (n + 2) file)
-
--- and what they write within the output
+-- what they write lies within the output
 pub fed-room : (least k : ℕ) (r : Receiver) (file : List ℕ) (room : ℕ) → length (written r (fedFrom least k r file room)) ≤ room
 unfolding fedFrom written
 fed-room least zero r file room = omega arith

@@ -24,7 +24,7 @@ pub struct Fed {
 }
 
 // The same of a receiver that is lent in parts: its marks.
-pub(crate) struct FedParts {
+pub struct FedParts {
     pub marks: Marks,
     pub entries: usize,
     pub used: usize,
@@ -55,9 +55,14 @@ fn put_answer(answers: &mut [u32], answer: Answer)
     answers[5] = answer.records as u32;
 }
 
+// Does nothing: an array by value has the length that its type says, which a proof cannot tell of one that is lent. Nothing of it is compiled.
+fn is_whole(states: [u8; 256])
+    ensures { λ _. ⌜ length states ≡ contacts ⌝ }
+{}
+
 // The whole entries at the front of a part of a bench file, fed to a receiver that is lent in parts, so that its contacts are copied
-// once for all of them.
-fn feed_parts(
+// for none of them.
+pub fn feed_parts(
     mut marks: Marks,
     file: &[u8],
     least: usize,
@@ -67,9 +72,9 @@ fn feed_parts(
     xs: &mut [i32; 256],
     ys: &mut [i32; 256],
 ) -> FedParts
-    requires { ⌜ length (now states) ≡ contacts ⌝ }
     ensures { λ r. ⌜ TakesEntries least (ofParts marks (tableFrom (now (states .entry)) (now (xs .entry)) (now (ys .entry)))) (now (file .entry)) (fedOf r (tableFrom (now (states .exit)) (now (xs .exit)) (now (ys .exit)))) (now (answers .entry)) (now (answers .exit)) (now (output .entry)) (now (output .exit)) ⌝ }
 {
+    is_whole(*states);
     let places = answers.len() / ANSWER_NUMBERS;
     let mut entries: usize = 0;
     let mut used: usize = 0;

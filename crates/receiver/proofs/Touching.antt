@@ -5,8 +5,7 @@ use mathlib.Core.Path.{_≡_, refl, sym, ap, _∙_}
 use mathlib.Core.Bool.{Bool, true, false, cond, not}
 use mathlib.Core.List.{List, []}
 use native.Mathlib.Omega.{arith}
-use borrow.Author.Tests.{leb-true, leb-false}
-use lib.Dec.{leb}
+use borrow.Author.Tests.{leb-true}
 use lib.ListN.{length, take, drop}
 use Rattle.paper.specs.Refusals.{none, noRoom}
 use Rattle.paper.specs.declared.Milliseconds.{Milliseconds}
@@ -37,9 +36,9 @@ use Rattle.receiver.specs.declared.Answer.{Answer}
 use Rattle.receiver.specs.declared.Received.{Received}
 use Rattle.receiver.specs.Receive.{rulesOf, machineOf, untimed, judged, touched, refusal, answerOf, timeBy}
 use Rattle.channel.specs.Marks.{off, mark}
-use Rattle.receiver.specs.Events.{answerOfRun, Gives, touchEffect, Tallies, Rooms, Carried, Carries}
+use Rattle.receiver.specs.Events.{answerOfRun, Gives, touchEffect, roomy, Tallies, Carried, Carries, Settles}
 use Rattle.receiver.proofs.Weight.{touch-small}
-use Rattle.receiver.proofs.Answering.{gives-refused, gives-none, gives-done}
+use Rattle.receiver.proofs.Answering.{gives-refused, gives-none, gives-done, gives-same}
 
 -- ---- the frames as a run takes them, and as the receiver's definition does
 
@@ -52,25 +51,6 @@ bytes-of r m = refl
 
 quotient : (k n : ℕ) → 21 * k ≡ n → k ≡ n / 21
 quotient k n e = omega arith
-
--- ---- room
-
-bool-never : {P : Type 0} → true ≡ false → P
-bool-never e = absurd (let z : _≡_ {A = ℕ} 0 1 = cc in omega arith)
-
-module _ (r : Receiver) (n : ℕ) (l : List ℕ) (bytes : ℕ) (before : List ℕ) where
-  -- enough for whatever the bytes can give
-  pub rooms-all : bytes / 2 + contacts ≤ length before / 21 → Rooms r n l bytes true before before
-  rooms-all h =
-      record { short = λ w fs rest e. bool-never w; enough = λ w fs rest e s. omega arith; kept = λ fs rest e. refl }
-
-  pub rooms-counted : (k : ℕ) (after : List ℕ) (roomy : Bool) → Tallies r n l k before after → roomy ≡ leb (21 * k) (length after) → Rooms r n l bytes roomy before after
-  rooms-counted k after roomy t w =
-      record {
-        short = λ h fs rest e. let q : length after < 21 * k = leb-false _ _ (sym w ∙ h) in omega (arith, q, t .count fs rest e, ap length (t .kept fs rest e));
-        enough = λ h fs rest e s. let q : 21 * k ≤ length after = leb-true _ _ (sym w ∙ h) in omega (arith, q, t .count fs rest e, ap length (t .kept fs rest e));
-        kept = t .kept;
-      }
 
 module _ (r : Receiver) (l : List ℕ) (un : Bool) (eu : un ≡ untimed r) (active : ℕ) (a : Counted active (r .states)) (run : Run) (u : Table) (before after : List ℕ) where
   -- ---- counted
@@ -129,6 +109,22 @@ module _ (r : Receiver) (l : List ℕ) (un : Bool) (eu : un ≡ untimed r) (acti
     pub carries : Carries r h l before (record { receiver = record { ready = r .ready; begun = b; ignoring = i; settings = r .settings; states = u .states; xs = u .xs; ys = u .ys }; answer = answer }) after
     carries = record { whole = a .all; carried = carried }
 
+-- ---- counted first
+
+module _ (r : Receiver) (h : BodyHead) (l : List ℕ) (k : ℕ) (before mid : List ℕ) (t : Tallies r (h .frames) l k before mid) (q : Received) where
+  pub settles-none : length mid < 21 * k → q ≡ record { receiver = r; answer = refusal noRoom } → Settles r h l before q mid
+  settles-none room a m rest eh e =
+      let same = t .kept (m .frames) rest e in
+      let w : length before < length (touched r m .bytes) = rw (bytes-of r m) (omega (arith, room, t .count (m .frames) rest e, ap length same)) in
+      rw same (gives-none r before q (got (touched r m) rest) (touched r m) rest refl w a)
+
+  pub settles-done : (after : List ℕ) → 21 * k ≤ length mid → Carries r h l mid q after → Settles r h l before q after
+  settles-done after room y m rest eh e =
+      let same = t .kept (m .frames) rest e in
+      let w : length (touched r m .bytes) ≤ length before = rw (bytes-of r m) (omega (arith, room, t .count (m .frames) rest e, ap length same)) in
+      let d = y .carried m rest eh e (omega (arith, w, ap length same)) in
+      gives-done r before q (got (touched r m) rest) (touched r m) rest refl after w (d .answer) (d .output ∙ ap (λ (s : List ℕ). laid s (touched r m .bytes)) same)
+
 -- ---- the whole body
 
 module _ (r : Receiver) (b : List ℕ) (j : Bool) (ej : j ≡ judged r) (before : List ℕ) (q : Received) where
@@ -144,8 +140,7 @@ module _ (r : Receiver) (b : List ℕ) (j : Bool) (ej : j ≡ judged r) (before 
           let kn : k ≡ z = f ∙ ap checkedRefusal e ∙ sym zn in
           gives-refused r before q (touchEffect r b) z (rw v) (a ∙ ap (λ (y : ℕ). record { receiver = r; answer = refusal y }) kn)
 
-  module _ (h : BodyHead) (at : ℕ) (c : Checks j b (CheckedBody.Body h at)) (roomy : Bool) (mid : List ℕ)
-      (t : Rooms r (h .frames) (take (length b - at) (drop at b)) (length b) roomy before mid) where
+  module _ (h : BodyHead) (at : ℕ) (c : Checks j b (CheckedBody.Body h at)) (after : List ℕ) where
     it : Checked j b h at
     it = checked j b h at c
 
@@ -158,18 +153,12 @@ module _ (r : Receiver) (b : List ℕ) (j : Bool) (ej : j ≡ judged r) (before 
     frames-are : readSeries frameBy false (h .frames) (take (length b - at) (drop at b)) ≡ got (it .message .frames) []
     frames-are = rw (tail b at) (frames-freed taken touchLimits (contact taken) j (h .frames) (drop at b) (it .message .frames) [] (it .frames))
 
-    same : mid ≡ before
-    same = t .kept (it .message .frames) [] frames-are
+    pub touch-settled : Settles r h (take (length b - at) (drop at b)) before q after → Gives r (touchEffect r b) before q after
+    touch-settled s = gives-same r _ _ before q after effect-is (s (it .message) [] (it .head) frames-are)
 
-    pub touch-none : roomy ≡ false → q ≡ record { receiver = r; answer = refusal noRoom } → Gives r (touchEffect r b) before q mid
-    touch-none room a =
-        let w : length before < length (touched r (it .message) .bytes) = rw (bytes-of r (it .message)) (t .short room (it .message .frames) [] frames-are) in
-        rw same (gives-none r before q (touchEffect r b) (touched r (it .message)) [] effect-is w a)
-
-    pub touch-done : (after : List ℕ) → roomy ≡ true → Carries r h (take (length b - at) (drop at b)) mid q after → Gives r (touchEffect r b) before q after
-    touch-done after room y =
-        let e = bytes-of r (it .message) in
-        let n = ap length same in
-        let w : length (touched r (it .message) .bytes) ≤ length before = rw e (t .enough room (it .message .frames) [] frames-are (rw e at (touch-small r (y .whole) b (it .message) [] read))) in
-        let d = y .carried (it .message) [] (it .head) frames-are (omega arith) in
-        gives-done r before q (touchEffect r b) (touched r (it .message)) [] effect-is after w (d .answer) (d .output ∙ ap (λ (y : List ℕ). laid y (touched r (it .message) .bytes)) same)
+    pub touch-roomy : roomy (length b) (length before) ≡ true → Carries r h (take (length b - at) (drop at b)) before q after → Gives r (touchEffect r b) before q after
+    touch-roomy room y =
+        let n : length b / 2 + contacts ≤ length before / 21 = leb-true _ _ room in
+        let w : length (touched r (it .message) .bytes) ≤ length before = omega (arith, n, touch-small r (y .whole) b (it .message) [] read) in
+        let d = y .carried (it .message) [] (it .head) frames-are w in
+        gives-done r before q (touchEffect r b) (touched r (it .message)) [] effect-is after w (d .answer) (d .output)

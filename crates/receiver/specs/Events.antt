@@ -1,8 +1,9 @@
 -- What the calls for the single events answer: of the effect that a body has, and of the frames of a touch message.
-use Prim.Native.Nat.{ℕ, _+_, _*_, _/_, _≤_, _<_}
+use Prim.Native.Nat.{ℕ, _+_, _*_, _/_, _≤_}
 use mathlib.Core.Path.{_≡_}
-use mathlib.Core.Bool.{Bool, true, false}
+use mathlib.Core.Bool.{Bool, false}
 use mathlib.Core.List.{List}
+use lib.Dec.{leb}
 use lib.ListN.{length}
 use Rattle.paper.specs.Refusals.{none, trailing}
 use Rattle.paper.specs.declared.Milliseconds.{Milliseconds}
@@ -69,14 +70,9 @@ pub record Tallies (r : Receiver) (n : ℕ) (l : List ℕ) (records : ℕ) (befo
       → recordBytes * records ≡ length (runBytes touchView (rulesOf r) (machineOf r) (timedFrames (untimed r) fs))
   pub kept : (fs : List (Frame Contact)) (rest : List ℕ) → readSeries (λ b. frame taken b .read) false n l ≡ got fs rest → after ≡ before
 
--- whether there is room for their records, where the frames are all that a body of so many bytes holds
-pub record Rooms (r : Receiver) (n : ℕ) (l : List ℕ) (bodyBytes : ℕ) (roomy : Bool) (before after : List ℕ) : Type 0 where
-  pub short : roomy ≡ false → (fs : List (Frame Contact)) (rest : List ℕ) → readSeries (λ b. frame taken b .read) false n l ≡ got fs rest
-      → length before < length (runBytes touchView (rulesOf r) (machineOf r) (timedFrames (untimed r) fs))
-  pub enough : roomy ≡ true → (fs : List (Frame Contact)) (rest : List ℕ) → readSeries (λ b. frame taken b .read) false n l ≡ got fs rest
-      → length (runBytes touchView (rulesOf r) (machineOf r) (timedFrames (untimed r) fs)) ≤ recordBytes * (bodyBytes / 2 + contacts)
-      → length (runBytes touchView (rulesOf r) (machineOf r) (timedFrames (untimed r) fs)) ≤ length before
-  pub kept : (fs : List (Frame Contact)) (rest : List ℕ) → readSeries (λ b. frame taken b .read) false n l ≡ got fs rest → after ≡ before
+-- an output of so many bytes has room for whatever a body of so many gives: a record for every two of them, and a cancel for each contact
+abbrev pub roomy : ℕ → ℕ → Bool
+roomy bodyBytes room = leb (bodyBytes / 2 + contacts) (room / recordBytes)
 
 -- an effect, carried out
 pub record Carried (e : Effect) (before : List ℕ) (q : Received) (after : List ℕ) : Type 0 where
@@ -88,3 +84,9 @@ pub record Carries (r : Receiver) (h : BodyHead) (l before : List ℕ) (q : Rece
   pub whole : length (r .states) ≡ contacts
   pub carried : (m : Touch) (rest : List ℕ) → h ≡ bodyHeadOf m → readSeries (λ b. frame taken b .read) false (h .frames) l ≡ got (m .frames) rest
       → length (touched r m .bytes) ≤ length before → Carried (touched r m) before q after
+
+-- .. or refused where there is not
+abbrev pub Settles : Receiver → BodyHead → List ℕ → List ℕ → Received → List ℕ → Type 0
+Settles r h l before q after =
+    (m : Touch) (rest : List ℕ) → h ≡ bodyHeadOf m → readSeries (λ b. frame taken b .read) false (h .frames) l ≡ got (m .frames) rest
+    → Gives r (got (touched r m) rest) before q after

@@ -10,8 +10,8 @@ use touch::CheckedBody;
 ghost use mathlib.Core.Path.{_≡_};
 ghost use mathlib.Core.Bool.{cond, not};
 ghost use Rattle.contacts.specs.Ruling.{tableFrom};
-ghost use Rattle.channel.specs.Marks.{mark};
-ghost use Rattle.receiver.specs.Events.{ofParts, turned, answerOfRun, Gives, touchEffect, Tallies, Rooms, Carries};
+ghost use Rattle.channel.specs.Marks.{off, mark};
+ghost use Rattle.receiver.specs.Events.{ofParts, turned, answerOfRun, Gives, touchEffect, roomy, Tallies, Carries, Settles};
 
 // How many contacts there are: an id is a byte.
 const CONTACTS: usize = 256;
@@ -50,9 +50,18 @@ fn answer_to(run: Run, time: Milliseconds) -> Answer
     }
 }
 
+// Whether an output of so many bytes has room for whatever a body of so many gives: two bytes of it give at most one record, beside a cancel
+// for each contact.
+fn is_roomy(bytes: usize, room: usize) -> bool
+    ensures { λ r. ⌜ r ≡ roomy bytes room ⌝ }
+{
+    bytes / 2 + CONTACTS <= room / house::RECORD_BYTES
+}
+
 // How many records the frames give, by a run over a copy of the contacts; nothing is written.
 fn tally(
     marks: Marks,
+    running: bool,
     n: u8,
     frames: &[u8],
     output: &mut [u8],
@@ -60,6 +69,7 @@ fn tally(
     xs: &[i32; 256],
     ys: &[i32; 256],
 ) -> usize
+    requires { ⌜ running ≡ off (marks .ignoring) ⌝ }
     ensures { λ r. ⌜ Tallies (ofParts marks (tableFrom (now (states .entry)) (now (xs .entry)) (now (ys .entry)))) n (now (frames .entry)) r (now (output .entry)) (now (output .exit)) ⌝ }
 {
     let settings = marks.settings;
@@ -75,34 +85,13 @@ fn tally(
         n,
         untimed,
         settings.most,
-        marks.ignoring == 0,
+        running,
         active,
         &mut some_states,
         &mut some_xs,
         &mut some_ys,
     );
     run.records
-}
-
-// Whether the output has room for the records of the frames in a body of so many bytes; nothing is written. Two bytes of a body give
-// at most one record, beside a cancel for each contact: where the output has room for all these, the frames need not be counted.
-fn has_room(
-    marks: Marks,
-    n: u8,
-    frames: &[u8],
-    bytes: usize,
-    output: &mut [u8],
-    states: &[u8; 256],
-    xs: &[i32; 256],
-    ys: &[i32; 256],
-) -> bool
-    ensures { λ r. ⌜ Rooms (ofParts marks (tableFrom (now (states .entry)) (now (xs .entry)) (now (ys .entry)))) n (now (frames .entry)) bytes r (now (output .entry)) (now (output .exit)) ⌝ }
-{
-    if bytes / 2 + CONTACTS <= output.len() / house::RECORD_BYTES {
-        return true;
-    }
-    let records = tally(marks, n, frames, output, states, xs, ys);
-    house::RECORD_BYTES * records <= output.len()
 }
 
 // The frames of a message carried out: their records, the receiver after them, and the answer.
@@ -146,7 +135,29 @@ fn carry_out(
     }
 }
 
-// A touch message's body.
+// The frames of a message, counted first, since the output might be too short for their records: carried out, or refused.
+fn carry_counted(
+    marks: Marks,
+    running: bool,
+    head: BodyHead,
+    frames: &[u8],
+    output: &mut [u8],
+    states: &mut [u8; 256],
+    xs: &mut [i32; 256],
+    ys: &mut [i32; 256],
+) -> Turn
+    requires { ⌜ running ≡ off (marks .ignoring) ⌝ }
+    ensures { λ r. ⌜ Settles (ofParts marks (tableFrom (now (states .entry)) (now (xs .entry)) (now (ys .entry)))) head (now (frames .entry)) (now (output .entry)) (turned r (tableFrom (now (states .exit)) (now (xs .exit)) (now (ys .exit)))) (now (output .exit)) ⌝ }
+{
+    let records = tally(marks, running, head.frames, frames, output, states, xs, ys);
+    if house::RECORD_BYTES * records <= output.len() {
+        return carry_out(marks, head, frames, output, states, xs, ys);
+    }
+    refuse(marks, paper::NO_ROOM)
+}
+
+// A touch message's body. The two calls for a running and an ignoring receiver differ in nothing else: being two, they are compiled as
+// calls, and the copy of the contacts that counting takes stays off the stack of a message that needs none.
 pub(crate) fn receive_touch(
     marks: Marks,
     body: &[u8],
@@ -164,9 +175,11 @@ pub(crate) fn receive_touch(
         return refuse(marks, checked.refusal());
     };
     let frames = &body[at..];
-    let bytes = body.len();
-    if has_room(marks, head.frames, frames, bytes, output, states, xs, ys) {
+    if is_roomy(body.len(), output.len()) {
         return carry_out(marks, head, frames, output, states, xs, ys);
     }
-    refuse(marks, paper::NO_ROOM)
+    if marks.ignoring == 0 {
+        return carry_counted(marks, true, head, frames, output, states, xs, ys);
+    }
+    carry_counted(marks, false, head, frames, output, states, xs, ys)
 }

@@ -47,6 +47,7 @@ pub struct Received {
 }
 
 // A receiver beside its contacts.
+#[repr(C)]
 pub struct Marks {
     pub ready: u8,
     pub begun: u8,
@@ -55,6 +56,7 @@ pub struct Marks {
 }
 
 // The marks after a message, and the answer.
+#[repr(C)]
 pub struct Turn {
     pub marks: Marks,
     pub answer: Answer,

@@ -25,8 +25,8 @@ abbrev μ-loop : tie.MeasureT-loop
 μ-loop marks₀ file least answers₀ output₀ states₀ xs₀ ys₀ places entries₀ used₀ records₀ marks answers output states xs ys entries used records =
     places - entries
 
-short : (c : tie.At-loop Inv-loop μ-loop) → let a = c .before .before .before .before .args in (length (a .file .now) < 2 ^ 64) × (length (a .answers .now) * 4 < 2 ^ 64) × (length (a .output .now) < 2 ^ 64)
-short c = let s = c .before .before .before .before in (omega arith, omega arith, omega arith)
+short : (c : tie.At-loop Inv-loop μ-loop) → let a = c .before .before .before .before .before .before .args in (length (a .file .now) < 2 ^ 64) × (length (a .answers .now) * 4 < 2 ^ 64) × (length (a .output .now) < 2 ^ 64)
+short c = let s = c .before .before .before .before .before .before in (omega arith, omega arith, omega arith)
 
 -- where a turn begins
 abbrev fedAt : tie.At-loop Inv-loop μ-loop → Fed
@@ -35,18 +35,21 @@ fedAt c = record { receiver = ofParts (c .loop .marks) (tableFrom (c .loop .stat
 -- the entry that it finds
 found : (c : tie.After-known-told Inv-loop μ-loop) →
     let p = c .before .before .before .before .before .before in
-    let file = p .before .before .before .before .args .file .now in
-    nextIn (p .before .before .before .before .args .least) (midOf (p .loop .used) (length file - p .loop .used) file) (length (p .loop .output) - recordBytes * p .loop .records) ≡ Front.Entry (c .before .next .given .0 .0)
+    let file = p .before .before .before .before .before .before .args .file .now in
+    nextIn (p .before .before .before .before .before .before .args .least) (midOf (p .loop .used) (length file - p .loop .used) file) (length (p .loop .output) - recordBytes * p .loop .records) ≡ Front.Entry (c .before .next .given .0 .0)
 found c = sym (c .before .before .before .next-entry .ensures) ∙ c .before .next .given .1
 
-inside : (c : tie.After-known-told Inv-loop μ-loop) → let p = c .before .before .before .before .before .before in p .loop .used + 2 + c .before .next .given .0 .0 ≤ length (p .before .before .before .before .args .file .now)
+inside : (c : tie.After-known-told Inv-loop μ-loop) → let p = c .before .before .before .before .before .before in p .loop .used + 2 + c .before .next .given .0 .0 ≤ length (p .before .before .before .before .before .before .args .file .now)
 inside c = found-inside _ _ _ _ _ _ _ _ (c .before .before .before .before .before .before .loop .inv) _ (found c)
 
 few : (c : tie.After-receive-parts Inv-loop μ-loop) → let p = c .before .before .before .before .before .before .before .before .before .before .before .before in Bounded (p .loop .output) (fedAt p) (c .receive-parts .result .answer)
 few c = let k = c .before .before .before .before .before .before in bounded _ _ _ _ _ _ _ _ (k .before .before .before .before .before .before .loop .inv) _ (found k) _ _ _ (c .receive-parts .ensures)
 
+is-whole-requires : tie.Need-is-whole-requires Inv-loop μ-loop
+is-whole-requires c κs = search needs
+
 loop-holds : tie.Need-loop-holds Inv-loop μ-loop
-loop-holds c = stands-first _ _ _ _ _ (c .before .before .before .pre)
+loop-holds c = stands-first _ _ _ _ _ (c .is-whole .ensures)
 
 mul-end : tie.Need-mul-end Inv-loop μ-loop
 mul-end c = let p = c .before in omega (arith, p .loop .inv .records, p .loop .inv .long, short p .2)
@@ -166,6 +169,7 @@ feed-parts-spec =
     (tie.spec
     Inv-loop
     μ-loop
+    is-whole-requires
     loop-holds
     mul-end
     sub-next-entry

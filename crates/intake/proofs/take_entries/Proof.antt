@@ -1,20 +1,14 @@
 -- `intake::take_entries` meets its contract: the parts are taken out, and put together again.
 -- Assumes nothing.
 use borrow.Author.Needs.{needs}
-use mathlib.Core.Path.{_≡_, sym, _∙_}
-use lib.ListN.{length, length-map}
 use Rattle.intake.proofs.take_entries.Statement.{statement}
 use Rattle.intake.proofs.take_entries.Tie as tie
-
--- a receiver's table has 256 states by its type
-whole : (c : tie.Start) → length (c .args .receiver .states) ≡ 256
-whole c = sym (length-map (c .args .receiver .states) (λ v. v)) ∙ c .good .0 .1 .1 .1 .1 .1 .1 .0 .1 .0 .1
 
 marks-of-requires : tie.Need-marks-of-requires
 marks-of-requires c κs = search needs
 
 feed-parts-requires : tie.Need-feed-parts-requires
-feed-parts-requires c κs = whole (c .before .before .before .before .before .before .before .before .before .before .before .before)
+feed-parts-requires c κs = search needs
 
 of-parts-requires : tie.Need-of-parts-requires
 of-parts-requires c κs = search needs

@@ -1,11 +1,13 @@
 -- `receiver::frames::receive_touch` meets its contract.
 -- Assumes nothing.
 use borrow.Author.Needs.{needs}
+use borrow.Author.Tests.{eq-eqb, ne-eqb}
+use mathlib.Core.Path.{sym, _∙_}
 use native.Mathlib.Omega.{arith}
 use Rattle.touch.specs.Answer.{Checks}
 use Rattle.touch.specs.declared.CheckedBody.the-variants as CheckedBody
 use Rattle.receiver.proofs.Answering.{turned-same}
-use Rattle.receiver.proofs.Touching.{touch-refused, touch-none, touch-done}
+use Rattle.receiver.proofs.Touching.{touch-refused, touch-settled, touch-roomy}
 use Rattle.receiver.proofs.frames.receive_touch.Statement.{statement}
 use Rattle.receiver.proofs.frames.receive_touch.Tie as tie
 
@@ -39,6 +41,9 @@ body-is : (c : tie.After-known-told) →
     Checks (k .before .is-judged .result) (k .before .before .before .before .before .args .body .now) (CheckedBody.Body (c .before .checked .given .0 .0) (c .before .checked .given .0 .1 .0))
 body-is c = rw (c .before .checked .given .1) at (c .before .before .before .check-body .ensures)
 
+abbrev judging : tie.After-known-told → tie.After-is-judged
+judging c = c .before .before .before .before
+
 sub-frames : tie.Need-sub-frames
 sub-frames c = omega (arith, body-is c .begins .inside)
 
@@ -48,8 +53,8 @@ part-frames-start c = omega (arith, body-is c .begins .inside)
 part-frames-end : tie.Need-part-frames-end
 part-frames-end c = search needs
 
-has-room-requires : tie.Need-has-room-requires
-has-room-requires c κs = search needs
+is-roomy-requires : tie.Need-is-roomy-requires
+is-roomy-requires c κs = search needs
 
 carry-out-requires : tie.Need-carry-out-requires
 carry-out-requires c κs = search needs
@@ -61,22 +66,36 @@ returns-2 : tie.Need-returns-2
 returns-2 c =
     let o = c .before .before in
     let i = o .before .before .before .before .before in
-    let t = i .before .before .before in
-    let k = t .before .before .before .before .before .before in
-    touch-done _ _ _ (k .before .before .before .before .is-judged .ensures) _ _ _ _ (body-is k) _ _ (t .has-room .ensures) _ (i .if1 .taken) (o .carry-out .ensures)
+    let k = i .before .before .before in
+    touch-roomy _ _ _ (judging k .is-judged .ensures) _ _ _ _ (body-is k) _ (sym (i .before .is-roomy .ensures) ∙ i .if1 .taken) (o .carry-out .ensures)
 
-refuse-requires-2 : tie.Need-refuse-requires-2
-refuse-requires-2 c κs = search needs
+-- the output that might be too short
+abbrev tight : tie.After-struct-known → tie.After-known-told
+tight c = c .before .before .before .before
+
+carry-counted-requires : tie.Need-carry-counted-requires
+carry-counted-requires c κs = sym (eq-eqb _ _ (c .before .before .before .before .if2 .taken))
 
 same-length-2 : tie.Need-same-length-2
 same-length-2 c = search needs
 
 returns-3 : tie.Need-returns-3
 returns-3 c =
-    let i = c .before in
-    let t = i .before .before .before in
-    let k = t .before .before .before .before .before .before in
-    touch-none _ _ _ (k .before .before .before .before .is-judged .ensures) _ _ _ _ (body-is k) _ _ (t .has-room .ensures) (i .if1 .left) (turned-same _ _ _ (c .refuse2 .ensures))
+    let o = c .before .before in
+    let k = tight (o .before .before .before .before .before .before) in
+    touch-settled _ _ _ (judging k .is-judged .ensures) _ _ _ _ (body-is k) _ (o .carry-counted .ensures)
+
+carry-counted-requires-2 : tie.Need-carry-counted-requires-2
+carry-counted-requires-2 c κs = sym (ne-eqb _ _ (c .before .before .before .before .if2 .left))
+
+same-length-3 : tie.Need-same-length-3
+same-length-3 c = search needs
+
+returns-4 : tie.Need-returns-4
+returns-4 c =
+    let o = c .before .before in
+    let k = tight (o .before .before .before .before .before .before) in
+    touch-settled _ _ _ (judging k .is-judged .ensures) _ _ _ _ (body-is k) _ (o .carry-counted2 .ensures)
 
 pub receive-touch-spec : {M : Type 1} → statement M
 receive-touch-spec =
@@ -92,10 +111,13 @@ receive-touch-spec =
     sub-frames
     part-frames-start
     part-frames-end
-    has-room-requires
+    is-roomy-requires
     carry-out-requires
     same-length
     returns-2
-    refuse-requires-2
+    carry-counted-requires
     same-length-2
-    returns-3)
+    returns-3
+    carry-counted-requires-2
+    same-length-3
+    returns-4)

@@ -11,7 +11,6 @@ use Rattle.messages.specs.Bodies.{nothing}
 use Rattle.messages.proofs.Laws.{headed-got}
 use Rattle.channel.specs.Marks.{mark}
 use Rattle.sending.specs.Panel.{awaited, suspendedBy, bodyArrival, arrival, panelOf, Takes}
-use Rattle.sending.specs.Judging.{markedAs}
 use Rattle.sending.specs.declared.Panel.{Panel}
 
 -- the event that sets the suspended mark, or clears it
@@ -20,7 +19,17 @@ setting on = cond on suspend resume
 
 module _ (p : Panel) (on : Bool) (already : p .suspended ≡ mark on) where
   same : suspendedBy p on ≡ p
-  same = λ i. markedAs p (p .greeted) (sym already i)
+  same =
+      λ i. record {
+        greeted = p .greeted;
+        ready = p .ready;
+        suspended = sym already i;
+        begun = p .begun;
+        settings = p .settings;
+        states = p .states;
+        xs = p .xs;
+        ys = p .ys;
+      }
 
   body-again : (b : List ℕ) → panelOf p (bodyArrival p (setting on) b) ≡ p
   body-again b = by on same

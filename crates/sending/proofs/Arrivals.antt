@@ -19,11 +19,12 @@ use Rattle.messages.specs.declared.Header.the-variants as head
 use Rattle.messages.specs.declared.ReadVersion.{ReadVersion}
 use Rattle.messages.specs.declared.ReadVersion.the-variants as read
 use Rattle.messages.proofs.Laws.{headed-got, one-of-one, one-of-later}
-use Rattle.channel.specs.Marks.{off, mark}
-use Rattle.sending.specs.Panel.{greetedBy, suspendedBy, bodyArrival, arrival, panelOf, Takes}
-use Rattle.sending.specs.Judging.{markedAs, Arrives}
+use Rattle.channel.specs.Marks.{off}
+use Rattle.machine.specs.Table.{Table}
+use Rattle.sending.specs.Panel.{panelMarks, panelOfParts, greetedBy, suspendedBy, bodyArrival, arrival, panelOf, Takes, Hears}
 use Rattle.sending.specs.declared.Panel.{Panel}
-use Rattle.sending.specs.declared.Arrival.{Arrival}
+use Rattle.sending.specs.declared.PanelMarks.{PanelMarks}
+use Rattle.sending.specs.declared.Heard.{Heard}
 
 -- ---- taken, or refused
 
@@ -34,9 +35,8 @@ takes-bad : (p : Panel) (l : List ℕ) (n : ℕ) → arrival p l ≡ bad n → T
 takes-bad p l n e = record { kept = sym (ap (panelOf p) e); answered = sym (ap refusalOf e) }
 
 -- a refusal leaves the marks
-arrives-refused : (greeted suspended : ℕ) (l : List ℕ) (n : ℕ) (a : Arrival) → a ≡ record { greeted = greeted; suspended = suspended; refusal = n }
-    → ((p : Panel) → arrival (markedAs p greeted suspended) l ≡ bad n) → Arrives greeted suspended l a
-arrives-refused greeted suspended l n a e h p = rw e (takes-bad (markedAs p greeted suspended) l n (h p))
+hears-refused : (m : PanelMarks) (l : List ℕ) (n : ℕ) (a : Heard) → a ≡ record { marks = m; refusal = n } → ((t : Table) → arrival (panelOfParts m t) l ≡ bad n) → Hears m l a
+hears-refused m l n a e h t = rw e (takes-bad (panelOfParts m t) l n (h t))
 
 -- ---- before server ready was taken
 
@@ -51,16 +51,16 @@ module _ (p : Panel) (l : List ℕ) (o : off (p .greeted) ≡ true) where
           let z : eqb e serverReady ≡ true = sym (one-of-one serverReady e) ∙ headed-got (serverReady ∷ []) l e b h .takes in
           rw z
 
-module _ (greeted suspended : ℕ) (l : List ℕ) (o : off greeted ≡ true) (x : ReadVersion) (h : versionGot x ≡ readMessage serverReady version l) where
-  pub greet-refused : (n : ℕ) → x ≡ read.Refused n → (a : Arrival) → a ≡ record { greeted = greeted; suspended = suspended; refusal = n } → Arrives greeted suspended l a
+module _ (m : PanelMarks) (l : List ℕ) (o : off (m .greeted) ≡ true) (x : ReadVersion) (h : versionGot x ≡ readMessage serverReady version l) where
+  pub greet-refused : (n : ℕ) → x ≡ read.Refused n → (a : Heard) → a ≡ record { marks = m; refusal = n } → Hears m l a
   greet-refused n w a e =
       let z : readMessage serverReady version l ≡ bad n = sym h ∙ ap versionGot w in
-      arrives-refused greeted suspended l n a e (λ p. greeting (markedAs p greeted suspended) l o ∙ rw z)
+      hears-refused m l n a e (λ t. greeting (panelOfParts m t) l o ∙ rw z)
 
-  pub greet-taken : (v : ℕ) → x ≡ read.Version v → Arrives greeted suspended l (record { greeted = 1; suspended = suspended; refusal = 0 })
-  greet-taken v w p =
+  pub greet-taken : (v : ℕ) → x ≡ read.Version v → (t : Table) (k : PanelMarks) → k ≡ panelMarks (greetedBy (panelOfParts m t)) → Takes (panelOfParts m t) l (panelOfParts k t) 0
+  greet-taken v w t k e =
       let z : readMessage serverReady version l ≡ got v [] = sym h ∙ ap versionGot w in
-      takes-got (markedAs p greeted suspended) l (markedAs p 1 suspended) [] (greeting (markedAs p greeted suspended) l o ∙ rw z)
+      rw e (takes-got (panelOfParts m t) l (greetedBy (panelOfParts m t)) [] (greeting (panelOfParts m t) l o ∙ rw z))
 
 -- ---- afterwards
 
@@ -103,21 +103,21 @@ module _ (b : List ℕ) (n : ℕ) (h : n ≡ refusalOf (whole nothing trailing b
 pub header-long : (l : List ℕ) (x : Header) → headerGot x l ≡ headed (suspend ∷ resume ∷ []) l → (e : ℕ) → x ≡ head.Event e → headerBytes ≤ length l
 header-long l x h e w = headed-got (suspend ∷ resume ∷ []) l e (drop headerBytes l) (sym h ∙ ap (λ (k : Header). headerGot k l) w) .low
 
-module _ (greeted suspended : ℕ) (l : List ℕ) (o : off greeted ≡ false) (x : Header) (h : headerGot x l ≡ headed (suspend ∷ resume ∷ []) l) where
-  pub hold-refused : (n : ℕ) → x ≡ head.Refused n → (a : Arrival) → a ≡ record { greeted = greeted; suspended = suspended; refusal = n } → Arrives greeted suspended l a
+module _ (m : PanelMarks) (l : List ℕ) (o : off (m .greeted) ≡ false) (x : Header) (h : headerGot x l ≡ headed (suspend ∷ resume ∷ []) l) where
+  pub hold-refused : (n : ℕ) → x ≡ head.Refused n → (a : Heard) → a ≡ record { marks = m; refusal = n } → Hears m l a
   hold-refused n w a e =
       let z : headed (suspend ∷ resume ∷ []) l ≡ bad n = sym h ∙ ap (λ (k : Header). headerGot k l) w in
-      arrives-refused greeted suspended l n a e (λ p. holding (markedAs p greeted suspended) l o ∙ rw z)
+      hears-refused m l n a e (λ t. holding (panelOfParts m t) l o ∙ rw z)
 
   module _ (e : ℕ) (w : x ≡ head.Event e) (n : ℕ) (k : n ≡ refusalOf (whole nothing trailing (drop headerBytes l))) where
     event : headed (suspend ∷ resume ∷ []) l ≡ got e (drop headerBytes l)
     event = sym h ∙ ap (λ (k : Header). headerGot k l) w
 
-    pub body-refused : (n ≡ 0 → ⊥) → (a : Arrival) → a ≡ record { greeted = greeted; suspended = suspended; refusal = n } → Arrives greeted suspended l a
-    body-refused f a q = arrives-refused greeted suspended l n a q (λ p. holding (markedAs p greeted suspended) l o ∙ rw (event, nothing-bad (drop headerBytes l) n k f))
+    pub body-refused : (n ≡ 0 → ⊥) → (a : Heard) → a ≡ record { marks = m; refusal = n } → Hears m l a
+    body-refused f a q = hears-refused m l n a q (λ t. holding (panelOfParts m t) l o ∙ rw (event, nothing-bad (drop headerBytes l) n k f))
 
-    pub body-taken : n ≡ 0 → (m : ℕ) → m ≡ mark (eqb e suspend) → Arrives greeted suspended l (record { greeted = greeted; suspended = m; refusal = 0 })
-    body-taken z m q p =
+    pub body-taken : n ≡ 0 → (t : Table) (j : PanelMarks) → j ≡ panelMarks (suspendedBy (panelOfParts m t) (eqb e suspend)) → Takes (panelOfParts m t) l (panelOfParts j t) 0
+    body-taken z t j q =
         rw q
-        (takes-got (markedAs p greeted suspended) l (markedAs p greeted (mark (eqb e suspend))) []
-        (holding (markedAs p greeted suspended) l o ∙ rw (event, nothing-got (drop headerBytes l) n k z)))
+        (takes-got (panelOfParts m t) l (suspendedBy (panelOfParts m t) (eqb e suspend)) []
+        (holding (panelOfParts m t) l o ∙ rw (event, nothing-got (drop headerBytes l) n k z)))

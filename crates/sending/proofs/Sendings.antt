@@ -17,21 +17,26 @@ use Rattle.states.specs.Table.{out, hovering}
 use Rattle.channel.specs.Marks.{off}
 use Rattle.machine.specs.Table.{Table, stateAt, withContact, origin}
 use Rattle.machine.proofs.Machine.{dismiss-table}
-use Rattle.sending.specs.Panel.{panelTable, panelWith, Sending, panelAfter, Sends, mayDeclare, readySending, dismissSending}
+use Rattle.sending.specs.Panel.{panelTable, panelOfParts, panelWith, Sending, panelAfter, Sends, Says, mayDeclare, readySending, dismissSending}
 use Rattle.sending.specs.declared.Panel.{Panel}
-use Rattle.sending.specs.declared.Outgoing.{Outgoing}
+use Rattle.sending.specs.declared.PanelMarks.{PanelMarks}
+use Rattle.sending.specs.declared.Said.{Said}
 use Rattle.sending.proofs.Drafts.{Tame, Told, given-tame}
 
 -- a refusal as it is answered
-abbrev refusedAs : Panel → ℕ → Outgoing
-refusedAs p n = record { panel = p; written = record { refusal = n; bytes = 0 } }
+abbrev refusedAs : PanelMarks → ℕ → Said
+refusedAs m n = record { marks = m; written = record { refusal = n; bytes = 0 } }
 
-module _ (p : Panel) (s : Sending) (before : List ℕ) (d : Draft) (same : s .draft ≡ d) where
+module _ (m : PanelMarks) (t : Table) (s : Sending) (before : List ℕ) (d : Draft) (same : s .draft ≡ d) where
+  -- the panel that is lent
+  abbrev lent : Panel
+  lent = panelOfParts m t
+
   -- what is left of the panel, by what the room leaves of the draft
-  after-is : (x : Draft) → given (length before) d ≡ x → panelAfter p (s .panel) (given (length before) (s .draft)) ≡ panelAfter p (s .panel) x
-  after-is x e = ap (λ (y : Draft). panelAfter p (s .panel) (given (length before) y)) same ∙ ap (panelAfter p (s .panel)) e
+  after-is : (x : Draft) → given (length before) d ≡ x → panelAfter lent (s .panel) (given (length before) (s .draft)) ≡ panelAfter lent (s .panel) x
+  after-is x e = ap (λ (y : Draft). panelAfter lent (s .panel) (given (length before) y)) same ∙ ap (panelAfter lent (s .panel)) e
 
-  pub sends-refused : (n : ℕ) (x : Outgoing) → d ≡ refuse n → x ≡ refusedAs p n → Sends p s (x .panel) (x .written) before before
+  pub sends-refused : (n : ℕ) (x : Said) → d ≡ refuse n → x ≡ refusedAs m n → Says lent s x t before before
   sends-refused n x e h =
       rw h
       (record {
@@ -40,20 +45,20 @@ module _ (p : Panel) (s : Sending) (before : List ℕ) (d : Draft) (same : s .dr
       })
 
   module _ (w : Written) (after : List ℕ) (writes : Writes d w before after) where
-    pub sends-failed : (w .refusal ≡ none → ⊥) → (x : Outgoing) → x ≡ refusedAs p (w .refusal) → Sends p s (x .panel) (x .written) before after
+    pub sends-failed : (w .refusal ≡ none → ⊥) → (x : Said) → x ≡ refusedAs m (w .refusal) → Says lent s x t before after
     sends-failed u x h = go (given (length before) d) refl
       where
-        go : (y : Draft) → given (length before) d ≡ y → Sends p s (x .panel) (x .written) before after
+        go : (y : Draft) → given (length before) d ≡ y → Says lent s x t before after
         go (bytes b) e = absurd (u (ap (λ (v : Written). v .refusal) (writes .answer ∙ ap answered e)))
         go (refuse n) e =
             let a : w ≡ record { refusal = n; bytes = 0 } = writes .answer ∙ ap answered e in
-            let z : x ≡ record { panel = p; written = w } = h ∙ ap (λ (v : Written). refusedAs p (v .refusal)) a ∙ sym (ap (λ (v : Written). record { panel = p; written = v }) a) in
+            let z : x ≡ record { marks = m; written = w } = h ∙ ap (λ (v : Written). refusedAs m (v .refusal)) a ∙ sym (ap (λ (v : Written). record { marks = m; written = v }) a) in
             rw z (record { writes = rw same writes; kept = sym (after-is (refuse n) e) })
 
-    pub sends-done : Tame Told d → w .refusal ≡ none → (q : Panel) → q ≡ s .panel → Sends p s q w before after
-    sends-done t u q h = go (given (length before) d) refl (given-tame Told (length before) d (λ z. omega (arith, z)) t)
+    pub sends-done : Tame Told d → w .refusal ≡ none → (q : Panel) → q ≡ s .panel → Sends lent s q w before after
+    sends-done told u q h = go (given (length before) d) refl (given-tame Told (length before) d (λ z. omega (arith, z)) told)
       where
-        go : (y : Draft) → given (length before) d ≡ y → Tame Told y → Sends p s q w before after
+        go : (y : Draft) → given (length before) d ≡ y → Tame Told y → Sends lent s q w before after
         go (bytes b) e k = record { writes = rw same writes; kept = h ∙ sym (after-is (bytes b) e) }
         go (refuse n) e k = absurd (k (sym (ap (λ (v : Written). v .refusal) (writes .answer ∙ ap answered e)) ∙ u))
 

@@ -21,8 +21,8 @@ use Rattle.machine.specs.Machine.{Machine, runMachine, allConform}
 use Rattle.contacts.specs.Touch.{touchView}
 use Rattle.writing.specs.TouchDraft.{checkedFrames, framesDraft, draftOf, touchDraft}
 use Rattle.writing.proofs.Checked.{checked-got}
-use Rattle.sending.specs.Panel.{panelRules, panelMachine, offsetStands, sendingDraft, touchSending}
-use Rattle.sending.specs.Judging.{running, AreFrames, permitted, faultOf, partedAs}
+use Rattle.sending.specs.Panel.{panelRules, panelMachine, panelOfParts, offsetStands, sendingDraft, touchSending}
+use Rattle.sending.specs.Judging.{running, AreFrames, permitted, faultOf}
 use Rattle.sending.specs.declared.Panel.{Panel}
 use Rattle.sending.proofs.Drafts.{Tame, Told, frames-told}
 
@@ -107,11 +107,15 @@ module _ (p : Panel) (time : Milliseconds) (records : List ℕ) where
           go false true e = absurd (omega (arith, e, z))
           go false false e = refl
 
+    -- the panel with this first-frame mark and this table
+    abbrev parted : ℕ → Table → Panel
+    parted begun t = panelOfParts (record { greeted = p .greeted; ready = p .ready; suspended = p .suspended; begun = begun; settings = p .settings }) t
+
     -- the panel that it leaves
     pub touch-leaves : (b : ℕ) (u : Table) → b ≡ begunBy 1 (p .begun) n → running u ≡ runMachine touchView (panelRules p) (panelMachine p) (w .frames)
-        → partedAs p (p .settings) b u ≡ touchSending p time records .panel
+        → parted b u ≡ touchSending p time records .panel
     unfolding touchSending
     touch-leaves b u e q =
         let t = ap (λ (m : Machine). m .table) q in
         let k : b ≡ begunBy 1 (p .begun) (length (w .frames)) = e ∙ ap (begunBy 1 (p .begun)) (w .count) in
-        rw (w .checked) (λ i. partedAs p (p .settings) (k i) (t i))
+        rw (w .checked) (λ i. parted (k i) (t i))

@@ -1,4 +1,4 @@
--- What the inner functions answer: of a message that arrives, and of the frames of records, one after the other.
+-- What the inner functions answer of a touch message: of the frames of records, one after the other, and of the checks over all of them.
 use Prim.Native.Nat.{ℕ, _≤_}
 use mathlib.Core.Path.{_≡_}
 use mathlib.Core.Bool.{Bool, true, cond, not}
@@ -10,7 +10,6 @@ use Rattle.formats.specs.Format.{Got, got, bad, andThen}
 use Rattle.house.specs.declared.Contact.{Contact}
 use Rattle.house.specs.declared.Record.{Record}
 use Rattle.house.specs.declared.Record.the-variants as Record
-use Rattle.messages.specs.declared.Ready.{Ready}
 use Rattle.framing.specs.Frame.{Frame}
 use Rattle.channel.specs.Marks.{off}
 use Rattle.recordings.specs.Records.{frameRecords, framesIn}
@@ -20,22 +19,9 @@ use Rattle.machine.specs.Conforms.{tableAfter, conforms}
 use Rattle.machine.specs.Machine.{Machine, runMachine, allConform}
 use Rattle.contacts.specs.Touch.{touchView}
 use Rattle.contacts.specs.Ruling.{Counted}
-use Rattle.sending.specs.Panel.{panelMachine, panelRules, offsetStands, Takes}
+use Rattle.sending.specs.Panel.{panelMachine, panelRules, offsetStands}
 use Rattle.sending.specs.declared.Panel.{Panel}
-use Rattle.sending.specs.declared.Arrival.{Arrival}
 use Rattle.sending.specs.declared.Step.{Step}
-
--- ---- what arrives
-
--- a panel with these two marks
-abbrev pub markedAs : Panel → ℕ → ℕ → Panel
-markedAs p greeted suspended =
-    record { greeted = greeted; ready = p .ready; suspended = suspended; begun = p .begun; settings = p .settings; states = p .states; xs = p .xs; ys = p .ys }
-
--- what becomes of the marks is what becomes of any panel that has them
-abbrev pub Arrives : ℕ → ℕ → List ℕ → Arrival → Type 0
-Arrives greeted suspended message a =
-    (p : Panel) → Takes (markedAs p greeted suspended) message (markedAs p (a .greeted) (a .suspended)) (a .refusal)
 
 -- ---- frames of records
 
@@ -94,8 +80,3 @@ faultOf p fs =
 pub record Faults (p : Panel) (l : List ℕ) (r : ℕ) (u : Table) : Type 0 where
   pub fault : (fs : List (Frame Contact)) (rest : List ℕ) → framesIn l ≡ got fs rest → r ≡ faultOf p fs
   pub table : (fs : List (Frame Contact)) (rest : List ℕ) → framesIn l ≡ got fs rest → r ≡ none → running u ≡ runMachine touchView (panelRules p) (panelMachine p) fs
-
--- a panel with these settings, first-frame mark and table
-abbrev pub partedAs : Panel → Ready → ℕ → Table → Panel
-partedAs p settings begun t =
-    record { greeted = p .greeted; ready = p .ready; suspended = p .suspended; begun = begun; settings = settings; states = t .states; xs = t .xs; ys = t .ys }

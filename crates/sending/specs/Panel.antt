@@ -26,6 +26,9 @@ use Rattle.machine.specs.Machine.{Machine, runMachine, allConform, dismissTable
 use Rattle.contacts.specs.Touch.{touchView, touchRules}
 use Rattle.writing.specs.TouchDraft.{framesDraft, checkedFrames}
 use Rattle.sending.specs.declared.Panel.{Panel}
+use Rattle.sending.specs.declared.PanelMarks.{PanelMarks}
+use Rattle.sending.specs.declared.Heard.{Heard}
+use Rattle.sending.specs.declared.Said.{Said}
 
 -- ---- a panel's parts
 
@@ -39,23 +42,29 @@ panelMachine p = record { table = panelTable p; running = true }
 abbrev pub panelRules : Panel → Rules Contact
 panelRules p = touchRules (p .settings .most)
 
-abbrev pub panelWith : Panel → Table → Panel
-panelWith p t =
+-- a panel that is lent in parts: the marks, and the contacts where they stand
+abbrev pub panelMarks : Panel → PanelMarks
+panelMarks p = record { greeted = p .greeted; ready = p .ready; suspended = p .suspended; begun = p .begun; settings = p .settings }
+
+abbrev pub panelOfParts : PanelMarks → Table → Panel
+panelOfParts m t =
     record {
-      greeted = p .greeted;
-      ready = p .ready;
-      suspended = p .suspended;
-      begun = p .begun;
-      settings = p .settings;
+      greeted = m .greeted;
+      ready = m .ready;
+      suspended = m .suspended;
+      begun = m .begun;
+      settings = m .settings;
       states = t .states;
       xs = t .xs;
       ys = t .ys;
     }
 
+abbrev pub panelWith : Panel → Table → Panel
+panelWith p t = panelOfParts (panelMarks p) t
+
 -- all zeros
 unfoldable pub freshPanel : Panel
-freshPanel =
-    panelWith (record { greeted = 0; ready = 0; suspended = 0; begun = 0; settings = record { flags = 0; version = 0; most = 0 }; states = []; xs = []; ys = [] }) resting
+freshPanel = panelOfParts (record { greeted = 0; ready = 0; suspended = 0; begun = 0; settings = record { flags = 0; version = 0; most = 0 } }) resting
 
 -- ---- what arrives
 
@@ -88,6 +97,10 @@ panelOf p (bad e) = p
 pub record Takes (p : Panel) (message : List ℕ) (panel : Panel) (refusal : ℕ) : Type 0 where
   pub kept : panel ≡ panelOf p (arrival p message)
   pub answered : refusal ≡ refusalOf (arrival p message)
+
+-- .. of a panel with these marks, whatever its contacts are: they stay
+abbrev pub Hears : PanelMarks → List ℕ → Heard → Type 0
+Hears m message h = (t : Table) → Takes (panelOfParts m t) message (panelOfParts (h .marks) t) (h .refusal)
 
 -- ---- what is sent: what a call would write, given room, and the panel that it leaves then
 
@@ -161,3 +174,7 @@ panelAfter p q (refuse e) = p
 pub record Sends (p : Panel) (s : Sending) (panel : Panel) (w : Written) (before after : List ℕ) : Type 0 where
   pub writes : Writes (s .draft) w before after
   pub kept : panel ≡ panelAfter p (s .panel) (given (length before) (s .draft))
+
+-- .. of a panel in parts
+abbrev pub Says : Panel → Sending → Said → Table → List ℕ → List ℕ → Type 0
+Says p s said t before after = Sends p s (panelOfParts (said .marks) t) (said .written) before after

@@ -1,7 +1,6 @@
-// What arrives: server ready once, and then suspend and resume.
-use crate::Arrival;
-use crate::Arrived;
-use crate::Panel;
+// What arrives: server ready once, and then suspend and resume. No contact is changed by it.
+use crate::Heard;
+use crate::PanelMarks;
 use messages::Header;
 use messages::ReadVersion;
 ghost use mathlib.Core.Path.{_≡_};
@@ -9,29 +8,40 @@ ghost use mathlib.Core.Bool.{true, false};
 ghost use lib.Dec.{eqb};
 ghost use Rattle.messages.specs.Header.{suspend};
 ghost use Rattle.channel.specs.Marks.{off, mark};
-ghost use Rattle.sending.specs.Panel.{Takes};
-ghost use Rattle.sending.specs.Judging.{Arrives};
+ghost use Rattle.sending.specs.Panel.{Hears};
 
 // A message that is refused, with its number, changes no mark.
-fn refuse(greeted: u8, suspended: u8, refusal: u8) -> Arrival
-    ensures { λ r. ⌜ r ≡ record { greeted = greeted; suspended = suspended; refusal = refusal } ⌝ }
+fn refuse(marks: PanelMarks, refusal: u8) -> Heard
+    ensures { λ r. ⌜ r ≡ record { marks = marks; refusal = refusal } ⌝ }
 {
-    Arrival {
-        greeted: greeted,
-        suspended: suspended,
+    Heard {
+        marks: marks,
         refusal: refusal,
     }
 }
 
+// The marks with these two.
+fn mark_as(marks: PanelMarks, greeted: u8, suspended: u8) -> PanelMarks
+    ensures { λ r. ⌜ r ≡ record { greeted = greeted; ready = marks .ready; suspended = suspended; begun = marks .begun; settings = marks .settings } ⌝ }
+{
+    let settings = marks.settings;
+    PanelMarks {
+        greeted: greeted,
+        ready: marks.ready,
+        suspended: suspended,
+        begun: marks.begun,
+        settings: settings,
+    }
+}
+
 // Server ready, all that a panel takes at first.
-fn greet(greeted: u8, suspended: u8, message: &[u8]) -> Arrival
-    ensures { λ r. ⌜ (off greeted ≡ true → Arrives greeted suspended (now (message .entry)) r) ⌝ }
+fn greet(marks: PanelMarks, message: &[u8]) -> Heard
+    ensures { λ r. ⌜ (off (marks .greeted) ≡ true → Hears marks (now (message .entry)) r) ⌝ }
 {
     match messages::read_server_ready(message) {
-        ReadVersion::Refused(e) => refuse(greeted, suspended, e),
-        ReadVersion::Version(_) => Arrival {
-            greeted: 1,
-            suspended: suspended,
+        ReadVersion::Refused(e) => refuse(marks, e),
+        ReadVersion::Version(_) => Heard {
+            marks: mark_as(marks, 1, marks.suspended),
             refusal: 0,
         },
     }
@@ -48,54 +58,30 @@ fn suspended_after(event: u16) -> u8
 }
 
 // Suspend or resume, all that a panel takes afterwards.
-fn hold(greeted: u8, suspended: u8, message: &[u8]) -> Arrival
-    ensures { λ r. ⌜ (off greeted ≡ false → Arrives greeted suspended (now (message .entry)) r) ⌝ }
+fn hold(marks: PanelMarks, message: &[u8]) -> Heard
+    ensures { λ r. ⌜ (off (marks .greeted) ≡ false → Hears marks (now (message .entry)) r) ⌝ }
 {
     match messages::read_header(message, messages::SUSPEND, messages::RESUME) {
-        Header::Refused(e) => refuse(greeted, suspended, e),
+        Header::Refused(e) => refuse(marks, e),
         Header::Event(event) => {
             let fault = messages::read_empty_body(&message[messages::HEADER_BYTES..]);
             if fault != 0 {
-                return refuse(greeted, suspended, fault);
+                return refuse(marks, fault);
             }
-            Arrival {
-                greeted: greeted,
-                suspended: suspended_after(event),
+            Heard {
+                marks: mark_as(marks, marks.greeted, suspended_after(event)),
                 refusal: 0,
             }
         }
     }
 }
 
-fn arrive(greeted: u8, suspended: u8, message: &[u8]) -> Arrival
-    ensures { λ r. ⌜ Arrives greeted suspended (now (message .entry)) r ⌝ }
+// A message that arrived at a panel with these marks: taken, or refused with nothing changed.
+pub fn take_parts(marks: PanelMarks, message: &[u8]) -> Heard
+    ensures { λ r. ⌜ Hears marks (now (message .entry)) r ⌝ }
 {
-    if greeted == 0 {
-        return greet(greeted, suspended, message);
+    if marks.greeted == 0 {
+        return greet(marks, message);
     }
-    hold(greeted, suspended, message)
-}
-
-// A message that arrived: taken, or refused with nothing changed.
-pub fn take(panel: Panel, message: &[u8]) -> Arrived
-    ensures { λ r. ⌜ Takes panel (now (message .entry)) (r .panel) (r .refusal) ⌝ }
-{
-    let settings = panel.settings;
-    let states = panel.states;
-    let xs = panel.xs;
-    let ys = panel.ys;
-    let arrival = arrive(panel.greeted, panel.suspended, message);
-    Arrived {
-        panel: Panel {
-            greeted: arrival.greeted,
-            ready: panel.ready,
-            suspended: arrival.suspended,
-            begun: panel.begun,
-            settings: settings,
-            states: states,
-            xs: xs,
-            ys: ys,
-        },
-        refusal: arrival.refusal,
-    }
+    hold(marks, message)
 }

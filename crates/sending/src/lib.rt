@@ -2,16 +2,21 @@
 // takes it.
 mod arriving;
 mod judging;
+mod whole;
 mod writers;
 
 use messages::Ready;
 use slices::Written;
 ghost use mathlib.Core.Path.{_≡_};
 ghost use Rattle.sending.specs.Panel.{freshPanel};
-pub use arriving::take;
-pub use writers::write_dismiss;
-pub use writers::write_ready;
-pub use writers::write_touch;
+pub use arriving::take_parts;
+pub use whole::take;
+pub use whole::write_dismiss;
+pub use whole::write_ready;
+pub use whole::write_touch;
+pub use writers::write_dismiss_parts;
+pub use writers::write_ready_parts;
+pub use writers::write_touch_parts;
 
 // One panel. Each mark is off where it is 0; a fresh panel is all zeros.
 #[repr(C)]
@@ -31,11 +36,28 @@ pub struct Panel {
     pub ys: [i32; 256],
 }
 
-// The marks that a message changes, and its refusal, 0 for none.
-pub(crate) struct Arrival {
+// A panel beside its contacts.
+#[repr(C)]
+pub struct PanelMarks {
     pub greeted: u8,
+    pub ready: u8,
     pub suspended: u8,
+    pub begun: u8,
+    pub settings: Ready,
+}
+
+// The marks after a message that arrived, and the refusal, 0 for none.
+#[repr(C)]
+pub struct Heard {
+    pub marks: PanelMarks,
     pub refusal: u8,
+}
+
+// The marks after a call that writes, and what it wrote.
+#[repr(C)]
+pub struct Said {
+    pub marks: PanelMarks,
+    pub written: Written,
 }
 
 // A frame of records: whether it conforms, how many contacts are active after it, and where it ends.

@@ -1,6 +1,7 @@
-// What is sent: each call judges all that it is given before it writes, and a refusal leaves the panel and the output as they were.
-use crate::Outgoing;
-use crate::Panel;
+// What is sent by a panel that is lent in parts: each call judges all that it is given before it writes, and a refusal leaves the marks, the
+// contacts and the output as they were.
+use crate::PanelMarks;
+use crate::Said;
 use crate::judging::first_offset;
 use crate::judging::run_through;
 use house::Point;
@@ -21,15 +22,16 @@ ghost use Rattle.recordings.specs.Answer.{counted, countedGot};
 ghost use Rattle.writing.specs.TouchDraft.{checkedFrames};
 ghost use Rattle.contacts.specs.Ruling.{tableFrom};
 ghost use Rattle.sending.specs.declared.Panel.{Panel};
-ghost use Rattle.sending.specs.Panel.{readySending, touchSending, dismissSending, offsetStands, Sends};
-ghost use Rattle.sending.specs.Judging.{permitted, AreFrames, Faults, partedAs};
+ghost use Rattle.machine.specs.Table.{Table};
+ghost use Rattle.sending.specs.Panel.{panelOfParts, readySending, touchSending, dismissSending, offsetStands, Says};
+ghost use Rattle.sending.specs.Judging.{permitted, AreFrames, Faults};
 
-// A refusal, which leaves the panel as it was.
-fn refuse(panel: Panel, refusal: u8) -> Outgoing
-    ensures { λ r. ⌜ r ≡ record { panel = panel; written = record { refusal = refusal; bytes = 0 } } ⌝ }
+// A refusal, which leaves the marks as they were.
+fn refuse(marks: PanelMarks, refusal: u8) -> Said
+    ensures { λ r. ⌜ r ≡ record { marks = marks; written = record { refusal = refusal; bytes = 0 } } ⌝ }
 {
-    Outgoing {
-        panel: panel,
+    Said {
+        marks: marks,
         written: Written {
             refusal: refusal,
             bytes: 0,
@@ -47,12 +49,18 @@ fn may_declare(greeted: u8, ready: u8) -> bool
     ready == 0
 }
 
-// Client ready: 15, 8, 13.
-pub fn write_ready(panel: Panel, out: &mut [u8], flags: u32, version: u32, most: u16) -> Outgoing
-    ensures { λ r. ⌜ Sends panel (readySending panel (record { flags = flags; version = version; most = most })) (r .panel) (r .written) (now (out .entry)) (now (out .exit)) ⌝ }
+// Client ready: 15, 8, 13. No contact is changed by it.
+pub fn write_ready_parts(
+    marks: PanelMarks,
+    out: &mut [u8],
+    flags: u32,
+    version: u32,
+    most: u16,
+) -> Said
+    ensures { λ r. ⌜ ((t : Table) → Says (panelOfParts marks t) (readySending (panelOfParts marks t) (record { flags = flags; version = version; most = most })) r t (now (out .entry)) (now (out .exit))) ⌝ }
 {
-    if !may_declare(panel.greeted, panel.ready) {
-        return refuse(panel, paper::NOT_READY);
+    if !may_declare(marks.greeted, marks.ready) {
+        return refuse(marks, paper::NOT_READY);
     }
     let settings = Ready {
         flags: flags,
@@ -61,21 +69,15 @@ pub fn write_ready(panel: Panel, out: &mut [u8], flags: u32, version: u32, most:
     };
     let written = messages::write_client_ready(out, settings);
     if written.refusal != 0 {
-        return refuse(panel, written.refusal);
+        return refuse(marks, written.refusal);
     }
-    let states = panel.states;
-    let xs = panel.xs;
-    let ys = panel.ys;
-    Outgoing {
-        panel: Panel {
-            greeted: panel.greeted,
+    Said {
+        marks: PanelMarks {
+            greeted: marks.greeted,
             ready: 1,
-            suspended: panel.suspended,
-            begun: panel.begun,
+            suspended: marks.suspended,
+            begun: marks.begun,
             settings: settings,
-            states: states,
-            xs: xs,
-            ys: ys,
         },
         written: written,
     }
@@ -111,103 +113,92 @@ fn offset_stands(records: &[u8], flags: u32, begun: u8) -> bool
 // 17, then 11, over all the frames of records; 0 where neither is given. The contacts are left as the frames leave them.
 fn frames_fault(
     records: &[u8],
-    settings: Ready,
-    begun: u8,
+    marks: PanelMarks,
     states: &mut [u8; 256],
     xs: &mut [i32; 256],
     ys: &mut [i32; 256],
 ) -> u8
     requires { ⌜ AreFrames (now records) ⌝ }
-    ensures { λ r. ⌜ ((p : Panel) → Faults (partedAs p settings begun (tableFrom (now (states .entry)) (now (xs .entry)) (now (ys .entry)))) (now (records .entry)) r (tableFrom (now (states .exit)) (now (xs .exit)) (now (ys .exit)))) ⌝ }
+    ensures { λ r. ⌜ Faults (panelOfParts marks (tableFrom (now (states .entry)) (now (xs .entry)) (now (ys .entry)))) (now (records .entry)) r (tableFrom (now (states .exit)) (now (xs .exit)) (now (ys .exit))) ⌝ }
 {
+    let settings = marks.settings;
     if !run_through(records, settings.most, states, xs, ys) {
         return paper::ILLEGAL;
     }
-    if !offset_stands(records, settings.flags, begun) {
+    if !offset_stands(records, settings.flags, marks.begun) {
         return paper::BAD_OFFSET;
     }
     0
 }
 
-// A touch message of records: 10, 14, 15, 16, 17, 11, 7, 2, 13.
-pub fn write_touch(panel: Panel, out: &mut [u8], time: Milliseconds, records: &[u8]) -> Outgoing
-    ensures { λ r. ⌜ Sends panel (touchSending panel time (now (records .entry))) (r .panel) (r .written) (now (out .entry)) (now (out .exit)) ⌝ }
+// A touch message of records: 10, 14, 15, 16, 17, 11, 7, 2, 13. The frames are run through on a copy of the contacts, which takes their place
+// once the message is written.
+pub fn write_touch_parts(
+    marks: PanelMarks,
+    out: &mut [u8],
+    time: Milliseconds,
+    records: &[u8],
+    states: &mut [u8; 256],
+    xs: &mut [i32; 256],
+    ys: &mut [i32; 256],
+) -> Said
+    ensures { λ r. ⌜ Says (panelOfParts marks (tableFrom (now (states .entry)) (now (xs .entry)) (now (ys .entry)))) (touchSending (panelOfParts marks (tableFrom (now (states .entry)) (now (xs .entry)) (now (ys .entry)))) time (now (records .entry))) r (tableFrom (now (states .exit)) (now (xs .exit)) (now (ys .exit))) (now (out .entry)) (now (out .exit)) ⌝ }
 {
-    let checked = check(panel.ready, panel.suspended, time, records);
+    let checked = check(marks.ready, marks.suspended, time, records);
     let Counted::Frames(frames) = checked else {
-        return refuse(panel, checked.refusal());
+        return refuse(marks, checked.refusal());
     };
-    let settings = panel.settings;
-    let mut states = panel.states;
-    let mut xs = panel.xs;
-    let mut ys = panel.ys;
-    let fault = frames_fault(
-        records,
-        settings,
-        panel.begun,
-        &mut states,
-        &mut xs,
-        &mut ys,
-    );
+    let mut some_states = *states;
+    let mut some_xs = *xs;
+    let mut some_ys = *ys;
+    let fault = frames_fault(records, marks, &mut some_states, &mut some_xs, &mut some_ys);
     if fault != 0 {
-        return refuse(panel, fault);
+        return refuse(marks, fault);
     }
     let message = writing::write_touch(out, time, records);
     if message.refusal != 0 {
-        return refuse(panel, message.refusal);
+        return refuse(marks, message.refusal);
     }
-    Outgoing {
-        panel: Panel {
-            greeted: panel.greeted,
-            ready: panel.ready,
-            suspended: panel.suspended,
-            begun: channel::begun_after(panel.begun, frames),
+    *states = some_states;
+    *xs = some_xs;
+    *ys = some_ys;
+    let settings = marks.settings;
+    Said {
+        marks: PanelMarks {
+            greeted: marks.greeted,
+            ready: marks.ready,
+            suspended: marks.suspended,
+            begun: channel::begun_after(marks.begun, frames),
             settings: settings,
-            states: states,
-            xs: xs,
-            ys: ys,
         },
         written: message,
     }
 }
 
 // Dismiss: 15, 17, 13.
-pub fn write_dismiss(panel: Panel, out: &mut [u8], id: u8) -> Outgoing
-    ensures { λ r. ⌜ Sends panel (dismissSending panel id) (r .panel) (r .written) (now (out .entry)) (now (out .exit)) ⌝ }
+pub fn write_dismiss_parts(
+    marks: PanelMarks,
+    out: &mut [u8],
+    id: u8,
+    states: &mut [u8; 256],
+    xs: &mut [i32; 256],
+    ys: &mut [i32; 256],
+) -> Said
+    ensures { λ r. ⌜ Says (panelOfParts marks (tableFrom (now (states .entry)) (now (xs .entry)) (now (ys .entry)))) (dismissSending (panelOfParts marks (tableFrom (now (states .entry)) (now (xs .entry)) (now (ys .entry)))) id) r (tableFrom (now (states .exit)) (now (xs .exit)) (now (ys .exit))) (now (out .entry)) (now (out .exit)) ⌝ }
 {
-    if panel.ready == 0 {
-        return refuse(panel, paper::NOT_READY);
+    if marks.ready == 0 {
+        return refuse(marks, paper::NOT_READY);
     }
-    let mut states = panel.states;
-    let mut xs = panel.xs;
-    let mut ys = panel.ys;
     if states[id as usize] != states::HOVERING {
-        return refuse(panel, paper::ILLEGAL);
+        return refuse(marks, paper::ILLEGAL);
     }
     let written = messages::write_dismiss(out, id);
     if written.refusal != 0 {
-        return refuse(panel, written.refusal);
+        return refuse(marks, written.refusal);
     }
-    let settings = panel.settings;
-    moves::store(
-        id,
-        states::OUT,
-        Point { x: 0, y: 0 },
-        &mut states,
-        &mut xs,
-        &mut ys,
-    );
-    Outgoing {
-        panel: Panel {
-            greeted: panel.greeted,
-            ready: panel.ready,
-            suspended: panel.suspended,
-            begun: panel.begun,
-            settings: settings,
-            states: states,
-            xs: xs,
-            ys: ys,
-        },
+    moves::store(id, states::OUT, Point { x: 0, y: 0 }, states, xs, ys);
+    Said {
+        marks: marks,
         written: written,
     }
 }

@@ -17,13 +17,18 @@ refuse-requires c κs = search needs
 enum-told : tie.Need-enum-told
 enum-told c = search needs
 
+mark-as-requires : tie.Need-mark-as-requires
+mark-as-requires c κs = search needs
+
 returns : tie.Need-returns
 returns c o =
     let e = c .before .before in
-    greet-refused _ _ _ o _ (e .before .before .read-server-ready .ensures) _ (e .e .given .1) _ (c .refuse .ensures)
+    greet-refused _ _ o _ (e .before .before .read-server-ready .ensures) _ (e .e .given .1) _ (c .refuse .ensures)
 
 returns-2 : tie.Need-returns-2
-returns-2 c o = greet-taken _ _ _ o _ (c .before .before .read-server-ready .ensures) _ (c .enum-told .given .1)
+returns-2 c o t =
+    let e = c .before in
+    greet-taken _ _ o _ (e .before .before .read-server-ready .ensures) _ (e .enum-told .given .1) t _ (c .mark-as .ensures)
 
 pub greet-spec : {M : Type 1} → statement M
-greet-spec = tie.close (tie.spec read-server-ready-requires enum-known-e refuse-requires enum-told returns returns-2)
+greet-spec = tie.close (tie.spec read-server-ready-requires enum-known-e refuse-requires enum-told mark-as-requires returns returns-2)

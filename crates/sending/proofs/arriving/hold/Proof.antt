@@ -39,22 +39,26 @@ returns c o =
     let b = c .before .before in
     let e = b .before .before .before in
     let n = rw (tail (e .before .before .before .before .args .message .now) 6) at (b .read-empty-body .ensures) in
-    body-refused _ _ _ o _ (e .before .before .read-header .ensures) _ (e .event .given .1) _ n (c .before .if1 .taken) _ (c .refuse2 .ensures)
+    body-refused _ _ o _ (e .before .before .read-header .ensures) _ (e .event .given .1) _ n (c .before .if1 .taken) _ (c .refuse2 .ensures)
 
 suspended-after-requires : tie.Need-suspended-after-requires
 suspended-after-requires c κs = search needs
 
+mark-as-requires : tie.Need-mark-as-requires
+mark-as-requires c κs = search needs
+
 returns-2 : tie.Need-returns-2
 returns-2 c o =
     let e = c .before .before in
-    hold-refused _ _ _ o _ (e .before .before .read-header .ensures) _ (e .e .given .1) _ (c .refuse .ensures)
+    hold-refused _ _ o _ (e .before .before .read-header .ensures) _ (e .e .given .1) _ (c .refuse .ensures)
 
 returns-3 : tie.Need-returns-3
-returns-3 c o =
-    let b = c .before .before in
+returns-3 c o t =
+    let s = c .before in
+    let b = s .before .before in
     let e = b .before .before .before in
     let n = rw (tail (e .before .before .before .before .args .message .now) 6) at (b .read-empty-body .ensures) in
-    body-taken _ _ _ o _ (e .before .before .read-header .ensures) _ (e .event .given .1) _ n (c .before .if1 .left) _ (c .suspended-after .ensures)
+    body-taken _ _ o _ (e .before .before .read-header .ensures) _ (e .event .given .1) _ n (s .before .if1 .left) t _ (rw (s .suspended-after .ensures) at (c .mark-as .ensures))
 
 pub hold-spec : {M : Type 1} → statement M
 hold-spec =
@@ -71,5 +75,6 @@ hold-spec =
     refuse-requires-2
     returns
     suspended-after-requires
+    mark-as-requires
     returns-2
     returns-3)

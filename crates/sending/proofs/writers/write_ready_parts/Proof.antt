@@ -1,13 +1,13 @@
--- `sending::writers::write_ready` meets its contract.
+-- `sending::writers::write_ready_parts` meets its contract.
 -- Assumes nothing.
 use borrow.Author.Needs.{needs}
 use borrow.Author.Tests.{not-true, not-false}
 use mathlib.Core.Path.{refl, sym, _∙_}
-use Rattle.sending.specs.Panel.{readySending}
+use Rattle.sending.specs.Panel.{panelOfParts, readySending}
 use Rattle.sending.proofs.Drafts.{client-ready-told}
 use Rattle.sending.proofs.Sendings.{sends-refused, sends-failed, sends-done, ready-early, ready-due}
-use Rattle.sending.proofs.writers.write_ready.Statement.{statement}
-use Rattle.sending.proofs.writers.write_ready.Tie as tie
+use Rattle.sending.proofs.writers.write_ready_parts.Statement.{statement}
+use Rattle.sending.proofs.writers.write_ready_parts.Tie as tie
 
 may-declare-requires : tie.Need-may-declare-requires
 may-declare-requires c κs = search needs
@@ -16,10 +16,10 @@ refuse-requires : tie.Need-refuse-requires
 refuse-requires c κs = search needs
 
 returns : tie.Need-returns
-returns c =
+returns c t =
     let m = c .before .before in
-    let no = ready-early (m .before .before .args .panel) _ (sym (m .may-declare .ensures) ∙ not-true (m .may-declare .result) (c .before .if1 .taken)) in
-    sends-refused _ _ _ _ no _ _ refl (c .refuse .ensures)
+    let no = ready-early (panelOfParts (m .before .before .args .marks) t) _ (sym (m .may-declare .ensures) ∙ not-true (m .may-declare .result) (c .before .if1 .taken)) in
+    sends-refused _ t _ _ _ no _ _ refl (c .refuse .ensures)
 
 write-client-ready-requires : tie.Need-write-client-ready-requires
 write-client-ready-requires c κs = search needs
@@ -31,26 +31,25 @@ same-length : tie.Need-same-length
 same-length c = search needs
 
 returns-2 : tie.Need-returns-2
-returns-2 c =
+returns-2 c t =
     let w = c .before .before .before .before .before in
     let m = w .before .before .before in
-    let due = ready-due (m .before .before .args .panel) _ (sym (m .may-declare .ensures) ∙ not-false (m .may-declare .result) (w .before .before .if1 .left)) in
-    sends-failed _ _ _ _ due _ _ (w .write-client-ready .ensures) (c .before .if2 .taken) _ (c .refuse2 .ensures)
+    let due = ready-due (panelOfParts (m .before .before .args .marks) t) _ (sym (m .may-declare .ensures) ∙ not-false (m .may-declare .result) (w .before .before .if1 .left)) in
+    sends-failed _ t _ _ _ due _ _ (w .write-client-ready .ensures) (c .before .if2 .taken) _ (c .refuse2 .ensures)
 
 same-length-2 : tie.Need-same-length-2
 same-length-2 c = search needs
 
 returns-3 : tie.Need-returns-3
 unfolding readySending
-returns-3 c =
-    let n = c .before .before .before in
-    let w = n .before .before .before .before in
+returns-3 c t =
+    let w = c .before .before .before .before in
     let m = w .before .before .before in
-    let due = ready-due (m .before .before .args .panel) _ (sym (m .may-declare .ensures) ∙ not-false (m .may-declare .result) (w .before .before .if1 .left)) in
-    sends-done _ _ _ _ due _ _ (w .write-client-ready .ensures) (client-ready-told _) (n .if2 .left) _ refl
+    let due = ready-due (panelOfParts (m .before .before .args .marks) t) _ (sym (m .may-declare .ensures) ∙ not-false (m .may-declare .result) (w .before .before .if1 .left)) in
+    sends-done _ t _ _ _ due _ _ (w .write-client-ready .ensures) (client-ready-told _) (c .if2 .left) _ refl
 
-pub write-ready-spec : {M : Type 1} → statement M
-write-ready-spec =
+pub write-ready-parts-spec : {M : Type 1} → statement M
+write-ready-parts-spec =
     tie.close
     (tie.spec
     may-declare-requires

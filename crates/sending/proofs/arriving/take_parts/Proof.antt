@@ -1,9 +1,9 @@
--- `sending::arriving::arrive` meets its contract.
+-- `sending::arriving::take_parts` meets its contract.
 -- Assumes nothing.
 use borrow.Author.Needs.{needs}
 use borrow.Author.Tests.{eq-eqb, ne-eqb}
-use Rattle.sending.proofs.arriving.arrive.Statement.{statement}
-use Rattle.sending.proofs.arriving.arrive.Tie as tie
+use Rattle.sending.proofs.arriving.take_parts.Statement.{statement}
+use Rattle.sending.proofs.arriving.take_parts.Tie as tie
 
 greet-requires : tie.Need-greet-requires
 greet-requires c κs = search needs
@@ -17,5 +17,5 @@ hold-requires c κs = search needs
 returns-2 : tie.Need-returns-2
 returns-2 c = c .hold .ensures (ne-eqb _ _ (c .before .if1 .left))
 
-pub arrive-spec : {M : Type 1} → statement M
-arrive-spec = tie.close (tie.spec greet-requires returns hold-requires returns-2)
+pub take-parts-spec : {M : Type 1} → statement M
+take-parts-spec = tie.close (tie.spec greet-requires returns hold-requires returns-2)

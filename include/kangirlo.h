@@ -112,6 +112,25 @@ struct kangirlo_batch {
 /* How many numbers so many places for answers are. */
 #define KANGIRLO_BATCH_NUMBERS(places) (6 * (size_t)(places))
 
+/* A receiver in parts: its marks, which go by value, beside its three arrays, which are lent. What becomes of a message or a batch then
+ * is the marks after it and the answer. */
+struct kangirlo_marks {
+	uint8_t ready;
+	uint8_t begun;
+	uint8_t ignoring;
+	struct kangirlo_settings settings;
+};
+
+struct kangirlo_turn {
+	struct kangirlo_marks marks;
+	struct kangirlo_answer answer;
+};
+
+struct kangirlo_batch_turn {
+	struct kangirlo_marks marks;
+	struct kangirlo_batch batch;
+};
+
 /* What the plain reading answers. */
 struct kangirlo_plain_answer {
 	uint8_t refusal;
@@ -123,6 +142,25 @@ struct kangirlo_plain_answer {
 struct kangirlo_written {
 	uint8_t refusal;
 	size_t bytes;
+};
+
+/* A panel in parts, likewise: what becomes of a message that arrived, and of a call that writes. */
+struct kangirlo_panel_marks {
+	uint8_t greeted;
+	uint8_t ready;
+	uint8_t suspended;
+	uint8_t begun;
+	struct kangirlo_settings settings;
+};
+
+struct kangirlo_panel_heard {
+	struct kangirlo_panel_marks marks;
+	uint8_t refusal;
+};
+
+struct kangirlo_panel_said {
+	struct kangirlo_panel_marks marks;
+	struct kangirlo_written written;
 };
 
 /* One record, read. Fields that its kind does not have are 0. */
@@ -162,6 +200,56 @@ struct kangirlo_answer kangirlo_receive(struct kangirlo_receiver *receiver, cons
 struct kangirlo_batch kangirlo_receive_all(struct kangirlo_receiver *receiver, const uint8_t *buffer, size_t buffer_length,
                                            struct kangirlo_batch_answer *answers, size_t numbers, uint8_t *output,
                                            size_t output_length);
+
+/* The same two calls for a receiver in parts, whose contacts are not copied: they take less stack and fewer instructions. The arrays are of
+ * 256 contacts. */
+struct kangirlo_turn kangirlo_receive_parts(struct kangirlo_marks marks, const uint8_t *message, size_t length, uint8_t *output,
+                                            size_t room, uint8_t *states, int32_t *xs, int32_t *ys);
+struct kangirlo_batch_turn kangirlo_receive_all_parts(struct kangirlo_marks marks, const uint8_t *buffer, size_t buffer_length,
+                                                      struct kangirlo_batch_answer *answers, size_t numbers, uint8_t *output,
+                                                      size_t output_length, uint8_t *states, int32_t *xs, int32_t *ys);
+
+/* .. and for a host that keeps a receiver: its own fields are lent. What they do is what kangirlo_receive and kangirlo_receive_all do. */
+static inline struct kangirlo_marks kangirlo_marks_of(const struct kangirlo_receiver *receiver)
+{
+	struct kangirlo_marks marks;
+
+	marks.ready = receiver->ready;
+	marks.begun = receiver->begun;
+	marks.ignoring = receiver->ignoring;
+	marks.settings = receiver->settings;
+	return marks;
+}
+
+static inline void kangirlo_keep_marks(struct kangirlo_receiver *receiver, struct kangirlo_marks marks)
+{
+	receiver->ready = marks.ready;
+	receiver->begun = marks.begun;
+	receiver->ignoring = marks.ignoring;
+	receiver->settings = marks.settings;
+}
+
+static inline struct kangirlo_answer kangirlo_receive_direct(struct kangirlo_receiver *receiver, const uint8_t *message, size_t length,
+                                                             uint8_t *output, size_t room)
+{
+	const struct kangirlo_turn turn = kangirlo_receive_parts(kangirlo_marks_of(receiver), message, length, output, room,
+	                                                         receiver->states, receiver->xs, receiver->ys);
+
+	kangirlo_keep_marks(receiver, turn.marks);
+	return turn.answer;
+}
+
+static inline struct kangirlo_batch kangirlo_receive_all_direct(struct kangirlo_receiver *receiver, const uint8_t *buffer,
+                                                                size_t buffer_length, struct kangirlo_batch_answer *answers,
+                                                                size_t numbers, uint8_t *output, size_t output_length)
+{
+	const struct kangirlo_batch_turn turn =
+		kangirlo_receive_all_parts(kangirlo_marks_of(receiver), buffer, buffer_length, answers, numbers, output, output_length,
+	                                   receiver->states, receiver->xs, receiver->ys);
+
+	kangirlo_keep_marks(receiver, turn.marks);
+	return turn.batch;
+}
 
 /* Reads a touch message by itself, with no receiver: its heads and contacts as records. */
 struct kangirlo_plain_answer kangirlo_plain(const uint8_t *message, size_t length, uint8_t *output, size_t room);
@@ -203,6 +291,77 @@ struct kangirlo_written kangirlo_panel_write_touch(struct kangirlo_panel *panel,
                                                    struct kangirlo_milliseconds time, const uint8_t *records, size_t length);
 struct kangirlo_written kangirlo_panel_write_dismiss(struct kangirlo_panel *panel, uint8_t *output, size_t room, uint8_t id);
 
+/* The same four calls for a panel in parts. What arrives and client ready leave the contacts as they are, and are lent none. */
+struct kangirlo_panel_heard kangirlo_panel_take_parts(struct kangirlo_panel_marks marks, const uint8_t *message, size_t length);
+struct kangirlo_panel_said kangirlo_panel_write_ready_parts(struct kangirlo_panel_marks marks, uint8_t *output, size_t room,
+                                                            uint32_t flags, uint32_t version, uint16_t most);
+struct kangirlo_panel_said kangirlo_panel_write_touch_parts(struct kangirlo_panel_marks marks, uint8_t *output, size_t room,
+                                                            struct kangirlo_milliseconds time, const uint8_t *records, size_t length,
+                                                            uint8_t *states, int32_t *xs, int32_t *ys);
+struct kangirlo_panel_said kangirlo_panel_write_dismiss_parts(struct kangirlo_panel_marks marks, uint8_t *output, size_t room,
+                                                              uint8_t id, uint8_t *states, int32_t *xs, int32_t *ys);
+
+/* .. and for a program that keeps a panel: its own fields are lent. */
+static inline struct kangirlo_panel_marks kangirlo_panel_marks_of(const struct kangirlo_panel *panel)
+{
+	struct kangirlo_panel_marks marks;
+
+	marks.greeted = panel->greeted;
+	marks.ready = panel->ready;
+	marks.suspended = panel->suspended;
+	marks.begun = panel->begun;
+	marks.settings = panel->settings;
+	return marks;
+}
+
+static inline void kangirlo_panel_keep_marks(struct kangirlo_panel *panel, struct kangirlo_panel_marks marks)
+{
+	panel->greeted = marks.greeted;
+	panel->ready = marks.ready;
+	panel->suspended = marks.suspended;
+	panel->begun = marks.begun;
+	panel->settings = marks.settings;
+}
+
+static inline uint8_t kangirlo_panel_take_direct(struct kangirlo_panel *panel, const uint8_t *message, size_t length)
+{
+	const struct kangirlo_panel_heard heard = kangirlo_panel_take_parts(kangirlo_panel_marks_of(panel), message, length);
+
+	kangirlo_panel_keep_marks(panel, heard.marks);
+	return heard.refusal;
+}
+
+static inline struct kangirlo_written kangirlo_panel_write_ready_direct(struct kangirlo_panel *panel, uint8_t *output, size_t room,
+                                                                        uint32_t flags, uint32_t version, uint16_t most)
+{
+	const struct kangirlo_panel_said said =
+		kangirlo_panel_write_ready_parts(kangirlo_panel_marks_of(panel), output, room, flags, version, most);
+
+	kangirlo_panel_keep_marks(panel, said.marks);
+	return said.written;
+}
+
+static inline struct kangirlo_written kangirlo_panel_write_touch_direct(struct kangirlo_panel *panel, uint8_t *output, size_t room,
+                                                                        struct kangirlo_milliseconds time, const uint8_t *records,
+                                                                        size_t length)
+{
+	const struct kangirlo_panel_said said = kangirlo_panel_write_touch_parts(
+		kangirlo_panel_marks_of(panel), output, room, time, records, length, panel->states, panel->xs, panel->ys);
+
+	kangirlo_panel_keep_marks(panel, said.marks);
+	return said.written;
+}
+
+static inline struct kangirlo_written kangirlo_panel_write_dismiss_direct(struct kangirlo_panel *panel, uint8_t *output, size_t room,
+                                                                          uint8_t id)
+{
+	const struct kangirlo_panel_said said = kangirlo_panel_write_dismiss_parts(kangirlo_panel_marks_of(panel), output, room, id,
+	                                                                           panel->states, panel->xs, panel->ys);
+
+	kangirlo_panel_keep_marks(panel, said.marks);
+	return said.written;
+}
+
 #ifdef __cplusplus
 }
 #endif
@@ -231,6 +390,14 @@ KANGIRLO_ASSERT(offsetof(struct kangirlo_batch_answer, ignored) == 8 && offsetof
 KANGIRLO_ASSERT(offsetof(struct kangirlo_batch_answer, time) == 16 && offsetof(struct kangirlo_batch_answer, records) == 20);
 KANGIRLO_ASSERT(sizeof(struct kangirlo_batch) == 24 && KANGIRLO_ALIGN(struct kangirlo_batch) == 8);
 KANGIRLO_ASSERT(offsetof(struct kangirlo_batch, entries) == 8 && offsetof(struct kangirlo_batch, records) == 16);
+KANGIRLO_ASSERT(sizeof(struct kangirlo_marks) == 16 && KANGIRLO_ALIGN(struct kangirlo_marks) == 4);
+KANGIRLO_ASSERT(offsetof(struct kangirlo_marks, settings) == 4);
+KANGIRLO_ASSERT(sizeof(struct kangirlo_turn) == 32 && offsetof(struct kangirlo_turn, answer) == 16);
+KANGIRLO_ASSERT(sizeof(struct kangirlo_batch_turn) == 40 && offsetof(struct kangirlo_batch_turn, batch) == 16);
+KANGIRLO_ASSERT(sizeof(struct kangirlo_panel_marks) == 16 && KANGIRLO_ALIGN(struct kangirlo_panel_marks) == 4);
+KANGIRLO_ASSERT(offsetof(struct kangirlo_panel_marks, begun) == 3 && offsetof(struct kangirlo_panel_marks, settings) == 4);
+KANGIRLO_ASSERT(sizeof(struct kangirlo_panel_heard) == 20 && offsetof(struct kangirlo_panel_heard, refusal) == 16);
+KANGIRLO_ASSERT(sizeof(struct kangirlo_panel_said) == 32 && offsetof(struct kangirlo_panel_said, written) == 16);
 KANGIRLO_ASSERT(sizeof(struct kangirlo_plain_answer) == 16 && KANGIRLO_ALIGN(struct kangirlo_plain_answer) == 8);
 KANGIRLO_ASSERT(sizeof(struct kangirlo_written) == 16 && KANGIRLO_ALIGN(struct kangirlo_written) == 8);
 KANGIRLO_ASSERT(sizeof(struct kangirlo_record) == 40 && KANGIRLO_ALIGN(struct kangirlo_record) == 8);

@@ -1,5 +1,6 @@
 // The C face: each call of include/kangirlo.h, a thin function over the call that does the work, with that call's contract.
 use bursts::Batch;
+use bursts::BatchTurn;
 use house::Contact;
 use house::Head;
 use house::Record;
@@ -8,13 +9,17 @@ use paper::Microseconds;
 use paper::Milliseconds;
 use reading::PlainAnswer;
 use receiver::Answer;
+use receiver::Marks;
 use receiver::Receiver;
+use receiver::Turn;
 use slices::Written;
 ghost use mathlib.Core.Path.{_≡_};
 ghost use Rattle.slices.specs.Writing.{Writes};
 ghost use Rattle.messages.specs.Bodies.{serverReadyDraft, clientReadyDraft, suspendDraft, resumeDraft, dismissDraft};
 ghost use Rattle.reading.specs.Plain.{ReadsPlainly};
 ghost use Rattle.writing.specs.TouchDraft.{touchDraft};
+ghost use Rattle.contacts.specs.Ruling.{tableFrom};
+ghost use Rattle.receiver.specs.Events.{ofParts};
 ghost use Rattle.receiver.specs.Receive.{fresh, Receives};
 ghost use Rattle.bursts.specs.Batch.{ReceivesAll};
 ghost use Rattle.kangirlo.specs.Flat.{flat, flattened, bare, flatHead, flatContact, refused as refusedRecord};
@@ -74,6 +79,37 @@ pub extern "C" fn kangirlo_receive_all(
     let received = bursts::receive_all(*receiver, buffer, answers, output);
     *receiver = received.receiver;
     received.batch
+}
+
+// A message to a receiver that is lent in parts, its marks by value: none of its contacts is copied. Answers the marks after it, too.
+#[no_mangle]
+pub extern "C" fn kangirlo_receive_parts(
+    marks: Marks,
+    message: &[u8],
+    output: &mut [u8],
+    states: &mut [u8; 256],
+    xs: &mut [i32; 256],
+    ys: &mut [i32; 256],
+) -> Turn
+    ensures { λ r. ⌜ Receives (ofParts marks (tableFrom (now (states .entry)) (now (xs .entry)) (now (ys .entry)))) (now (message .entry)) (now (output .entry)) (ofParts (r .marks) (tableFrom (now (states .exit)) (now (xs .exit)) (now (ys .exit)))) (r .answer) (now (output .exit)) ⌝ }
+{
+    receiver::receive_parts(marks, message, output, states, xs, ys)
+}
+
+// All entries of a buffer to a receiver that is lent in parts.
+#[no_mangle]
+pub extern "C" fn kangirlo_receive_all_parts(
+    marks: Marks,
+    buffer: &[u8],
+    answers: &mut [u32],
+    output: &mut [u8],
+    states: &mut [u8; 256],
+    xs: &mut [i32; 256],
+    ys: &mut [i32; 256],
+) -> BatchTurn
+    ensures { λ r. ⌜ ReceivesAll (ofParts marks (tableFrom (now (states .entry)) (now (xs .entry)) (now (ys .entry)))) (now (buffer .entry)) (ofParts (r .marks) (tableFrom (now (states .exit)) (now (xs .exit)) (now (ys .exit)))) (r .batch) (now (answers .entry)) (now (answers .exit)) (now (output .entry)) (now (output .exit)) ⌝ }
+{
+    bursts::receive_all_parts(marks, buffer, answers, output, states, xs, ys)
 }
 
 // A touch message read by itself.

@@ -1,12 +1,14 @@
--- Two outcomes that the contract of a call allows are equal: in its answer, in the panel that it was lent and in the output.
+-- Two outcomes that the contract of a call allows are equal: in its answer, in the panel that it was lent, whole or in parts, and in the output.
 -- Assumes nothing.
 use Prim.Native.Nat.{ℕ}
 use mathlib.Core.Path.{_≡_}
 use mathlib.Core.List.{List}
 use Rattle.paper.specs.declared.Milliseconds.{Milliseconds}
-use Rattle.sending.specs.Panel.{freshPanel, Takes, readySending, touchSending, dismissSending}
+use Rattle.sending.specs.Panel.{freshPanel, Takes, Hears, readySending, touchSending, dismissSending}
 use Rattle.sending.specs.declared.Panel.{Panel}
-use Rattle.sending.proofs.Unique.{One}
+use Rattle.sending.specs.declared.PanelMarks.{PanelMarks}
+use Rattle.sending.specs.declared.Heard.{Heard}
+use Rattle.sending.proofs.Unique.{One, OneInParts, OneReady}
 use Rattle.sending.proofs.Unique as sending
 
 pub record Calls : Type 0 where
@@ -15,6 +17,10 @@ pub record Calls : Type 0 where
   pub kangirlo-panel-write-ready : (p : Panel) (flags version most : ℕ) → One p (readySending p (record { flags = flags; version = version; most = most }))
   pub kangirlo-panel-write-touch : (p : Panel) (time : Milliseconds) (records : List ℕ) → One p (touchSending p time records)
   pub kangirlo-panel-write-dismiss : (p : Panel) (id : ℕ) → One p (dismissSending p id)
+  pub kangirlo-panel-take-parts : (m : PanelMarks) (message : List ℕ) (a b : Heard) → Hears m message a → Hears m message b → a ≡ b
+  pub kangirlo-panel-write-ready-parts : (m : PanelMarks) (flags version most : ℕ) → OneReady m (record { flags = flags; version = version; most = most })
+  pub kangirlo-panel-write-touch-parts : (p : Panel) (time : Milliseconds) (records : List ℕ) → OneInParts p (touchSending p time records)
+  pub kangirlo-panel-write-dismiss-parts : (p : Panel) (id : ℕ) → OneInParts p (dismissSending p id)
 
 pub calls-unique : Calls
 calls-unique =
@@ -24,4 +30,8 @@ calls-unique =
       kangirlo-panel-write-ready = λ p flags version most. sending.calls-unique .write-ready p (record { flags = flags; version = version; most = most });
       kangirlo-panel-write-touch = sending.calls-unique .write-touch;
       kangirlo-panel-write-dismiss = sending.calls-unique .write-dismiss;
+      kangirlo-panel-take-parts = sending.calls-unique .take-parts;
+      kangirlo-panel-write-ready-parts = λ m flags version most. sending.calls-unique .write-ready-parts m (record { flags = flags; version = version; most = most });
+      kangirlo-panel-write-touch-parts = sending.calls-unique .write-touch-parts;
+      kangirlo-panel-write-dismiss-parts = sending.calls-unique .write-dismiss-parts;
     }

@@ -1,11 +1,16 @@
 // The C face of the panel's sending side: each call of include/kangirlo.h that is lent a panel, a thin function over the call by
-// value, with that call's contract. The panel is updated where it stands.
-use messages::Ready;
+// value, with that call's contract. The panel is updated where it stands; beside each call stands one that is lent the panel in parts, the
+// marks by value and the contacts where they stand.
 use paper::Milliseconds;
+use sending::Heard;
 use sending::Panel;
+use sending::PanelMarks;
+use sending::Said;
 use slices::Written;
 ghost use mathlib.Core.Path.{_≡_};
-ghost use Rattle.sending.specs.Panel.{freshPanel, readySending, touchSending, dismissSending, Takes, Sends};
+ghost use Rattle.machine.specs.Table.{Table};
+ghost use Rattle.contacts.specs.Ruling.{tableFrom};
+ghost use Rattle.sending.specs.Panel.{freshPanel, panelOfParts, readySending, touchSending, dismissSending, Takes, Hears, Sends, Says};
 
 // A panel that has taken and written nothing.
 #[no_mangle]
@@ -68,4 +73,57 @@ pub extern "C" fn kangirlo_panel_write_dismiss(
     let outgoing = sending::write_dismiss(*panel, output, id);
     *panel = outgoing.panel;
     outgoing.written
+}
+
+// A message that arrived at a panel with these marks; its contacts are not needed.
+#[no_mangle]
+pub extern "C" fn kangirlo_panel_take_parts(marks: PanelMarks, message: &[u8]) -> Heard
+    ensures { λ r. ⌜ Hears marks (now (message .entry)) r ⌝ }
+{
+    sending::take_parts(marks, message)
+}
+
+// Client ready, of a panel with these marks; its contacts are not needed.
+#[no_mangle]
+pub extern "C" fn kangirlo_panel_write_ready_parts(
+    marks: PanelMarks,
+    output: &mut [u8],
+    flags: u32,
+    version: u32,
+    most: u16,
+) -> Said
+    ensures { λ r. ⌜ ((t : Table) → Says (panelOfParts marks t) (readySending (panelOfParts marks t) (record { flags = flags; version = version; most = most })) r t (now (output .entry)) (now (output .exit))) ⌝ }
+{
+    sending::write_ready_parts(marks, output, flags, version, most)
+}
+
+// A touch message of records, of a panel that is lent in parts.
+#[no_mangle]
+pub extern "C" fn kangirlo_panel_write_touch_parts(
+    marks: PanelMarks,
+    output: &mut [u8],
+    time: Milliseconds,
+    records: &[u8],
+    states: &mut [u8; 256],
+    xs: &mut [i32; 256],
+    ys: &mut [i32; 256],
+) -> Said
+    ensures { λ r. ⌜ Says (panelOfParts marks (tableFrom (now (states .entry)) (now (xs .entry)) (now (ys .entry)))) (touchSending (panelOfParts marks (tableFrom (now (states .entry)) (now (xs .entry)) (now (ys .entry)))) time (now (records .entry))) r (tableFrom (now (states .exit)) (now (xs .exit)) (now (ys .exit))) (now (output .entry)) (now (output .exit)) ⌝ }
+{
+    sending::write_touch_parts(marks, output, time, records, states, xs, ys)
+}
+
+// Dismiss, of a panel that is lent in parts.
+#[no_mangle]
+pub extern "C" fn kangirlo_panel_write_dismiss_parts(
+    marks: PanelMarks,
+    output: &mut [u8],
+    id: u8,
+    states: &mut [u8; 256],
+    xs: &mut [i32; 256],
+    ys: &mut [i32; 256],
+) -> Said
+    ensures { λ r. ⌜ Says (panelOfParts marks (tableFrom (now (states .entry)) (now (xs .entry)) (now (ys .entry)))) (dismissSending (panelOfParts marks (tableFrom (now (states .entry)) (now (xs .entry)) (now (ys .entry)))) id) r (tableFrom (now (states .exit)) (now (xs .exit)) (now (ys .exit))) (now (output .entry)) (now (output .exit)) ⌝ }
+{
+    sending::write_dismiss_parts(marks, output, id, states, xs, ys)
 }

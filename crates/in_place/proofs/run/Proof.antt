@@ -5,9 +5,8 @@ use mathlib.Core.Path.{_≡_, refl, sym, _∙_}
 use native.Mathlib.Omega.{arith}
 use borrow.Author.Needs.{needs}
 use denote.Ref.{now}
-use lib.ListN.{length, take, drop, length-drop}
-use lib.Seq.{length-take-le}
-use Rattle.entries.proofs.Laws.{front-inside}
+use lib.ListN.{length}
+use Rattle.in_place.proofs.Inside.{entry-inside}
 use Rattle.in_place.proofs.run.Statement.{statement}
 use Rattle.in_place.proofs.run.Tie as tie
 
@@ -21,15 +20,11 @@ abbrev μ-loop : tie.MeasureT-loop
 
 -- the entry that was found ends within the file
 inside : (c : tie.After-known-told Inv-loop μ-loop) →
-    let i = c .before .before .before .before .before in
-    i .before .loop .from + (2 + c .before .front .given .0 .0) ≤ length (now (i .before .before .before .before .before .before .args .file))
+    let l = c .before .before .before .before .before .before in
+    l .loop .from + (2 + c .before .front .given .0 .0) ≤ length (now (l .before .before .before .before .before .args .file))
 inside c =
-    let i = c .before .before .before .before .before in
-    let l = now (i .before .before .before .before .before .before .args .file) in
-    let at = i .before .loop .from in
-    let e = sym (c .before .before .before .read-front .ensures) ∙ c .before .front .given .1 in
-    let n : length (take (length l - at) (drop at l)) ≡ length l - at = length-take-le (length l - at) (drop at l) (simp length-drop (omega arith)) in
-    omega (arith, front-inside (take (length l - at) (drop at l)) _ e)
+    let l = c .before .before .before .before .before .before in
+    entry-inside (now (l .before .before .before .before .before .args .file)) (l .loop .from) _ (l .loop .inv .2) (sym (c .before .before .before .read-front .ensures) ∙ c .before .front .given .1)
 
 -- and no file is longer than a number can say
 short : (c : tie.After-known-told Inv-loop μ-loop) → c .before .before .before .before .before .before .loop .from + 2 < 2 ^ 64
@@ -89,21 +84,23 @@ part-receive-lent-end c = omega (arith, inside c)
 receive-lent-requires : tie.Need-receive-lent-requires Inv-loop μ-loop
 receive-lent-requires c κs = search needs
 
-add-received-requires : tie.Need-add-received-requires Inv-loop μ-loop
-add-received-requires c κs = search needs
+marks-of-requires : tie.Need-marks-of-requires Inv-loop μ-loop
+marks-of-requires c κs = search needs
+
+add-line-requires : tie.Need-add-line-requires Inv-loop μ-loop
+add-line-requires c κs = search needs
 
 add-number : tie.Need-add-number Inv-loop μ-loop
 add-number c =
-    let k = c .before .before .before .before .before .before .before .before .before .before in
+    let k = c .before .before .before .before .before .before .before .before .before .before .before .before .before in
     omega (arith, short k, k .before .before .before .before .before .before .loop .inv .3)
 
 loop-less : tie.Need-loop-less Inv-loop μ-loop
-loop-less c = omega (arith, inside (c .before .before .before .before .before .before .before .before .before .before))
+loop-less c = omega (arith, inside (c .before .before .before .before .before .before .before .before .before .before .before .before .before))
 
 loop-again : tie.Need-loop-again Inv-loop μ-loop
 loop-again c =
-    let o = c .before .before .before in
-    let k = o .before .before .before .before .before .before .before in
+    let k = c .before .before .before .before .before .before .before .before .before .before .before .before .before in
     let l = k .before .before .before .before .before .before .loop in
     (search needs, search needs, omega (arith, inside k), omega (arith, l .inv .3))
 
@@ -140,7 +137,8 @@ run-spec =
     part-receive-lent-start
     part-receive-lent-end
     receive-lent-requires
-    add-received-requires
+    marks-of-requires
+    add-line-requires
     add-number
     loop-less
     loop-again

@@ -1,0 +1,2 @@
+-- Feeding a file entry by entry.
+mod Inside

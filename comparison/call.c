@@ -1,5 +1,5 @@
 /* call PASSES < FILE: measures the receiver's call (measure.h), one message after the other. Compiled with TWIN it calls the second
- * receiver, and otherwise the product. */
+ * receiver, and otherwise the product: with DIRECT by the call that is lent the receiver's own fields. */
 #include "measure.h"
 
 #ifdef TWIN
@@ -16,7 +16,11 @@ static void begin(any_receiver *receiver)
 #include "kangirlo.h"
 typedef struct kangirlo_receiver any_receiver;
 typedef struct kangirlo_answer any_answer;
+#ifdef DIRECT
+#define RECEIVE kangirlo_receive_direct
+#else
 #define RECEIVE kangirlo_receive
+#endif
 #define TIME(answer) ((answer).time.value)
 
 static void begin(any_receiver *receiver)

@@ -1,9 +1,15 @@
-/* call_batch PASSES < FILE: measures the product's call for many messages (measure.h), in bursts of 64. Where the bursts end is found by
- * the pass that makes the checksum, so that it is not measured. */
+/* call_batch PASSES < FILE: measures the product's call for many messages (measure.h), in bursts of 64; compiled with DIRECT, the call that
+ * is lent the receiver's own fields. Where the bursts end is found by the pass that makes the checksum, so that it is not measured. */
 #include "measure.h"
 #include "same.h"
 
 #include <stdlib.h>
+
+#ifdef DIRECT
+#define RECEIVE_ALL kangirlo_receive_all_direct
+#else
+#define RECEIVE_ALL kangirlo_receive_all
+#endif
 
 enum { BURST = 64 };
 
@@ -13,7 +19,7 @@ static size_t *ends, bursts;
 
 static struct kangirlo_batch receive(struct kangirlo_receiver *receiver, const struct entries *entries, size_t from, size_t to)
 {
-	return kangirlo_receive_all(receiver, entries->bytes + from, to - from, answers, KANGIRLO_BATCH_NUMBERS(BURST), output, sizeof output);
+	return RECEIVE_ALL(receiver, entries->bytes + from, to - from, answers, KANGIRLO_BATCH_NUMBERS(BURST), output, sizeof output);
 }
 
 /* Finds where each burst ends. */

@@ -1,6 +1,7 @@
-/* differences < FILE: feeds each entry of a bench file to the product's call and to the second receiver, and compares all that the
- * calls decide: the answers with the encode time, every byte of the output, and the receivers. Each message that writes is first
- * given too little room, then room enough. Ends with 1 at the first difference, after saying what it is. */
+/* differences < FILE: feeds each entry of a bench file to the second receiver and to each of the product's calls for one message, with a
+ * receiver of its own, and compares all that the calls decide: the answers with the encode time, every byte of the output, and the
+ * receivers. Each message that writes is first given too little room, then room enough. Ends with 1 at the first difference, after
+ * saying what it is. */
 #include "entries.h"
 #include "same.h"
 
@@ -18,17 +19,36 @@ union output {
 	uint8_t bytes[KANGIRLO_OUTPUT_MOST];
 };
 
-struct pair {
+/* A call of the product, and what it is lent and answers. */
+struct way {
+	const char *name;
+	struct kangirlo_answer (*receive)(struct kangirlo_receiver *, const uint8_t *, size_t, uint8_t *, size_t);
+	struct kangirlo_receiver receiver;
+	struct kangirlo_answer answer;
+	union output output;
+};
+
+enum { WAYS = 2 };
+
+static struct way ways[WAYS] = {
+	{ .name = "kangirlo_receive", .receive = kangirlo_receive },
+	{ .name = "kangirlo_receive_direct", .receive = kangirlo_receive_direct },
+};
+
+static struct {
+	struct twin receiver;
+	struct twin_answer answer;
+	union output output;
+} twin;
+
+/* What all calls are given. */
+struct given {
 	uint64_t entry;
 	const uint8_t *message;
 	size_t n, room;
-	struct kangirlo_receiver receiver;
-	struct kangirlo_answer answer;
-	struct twin twin;
-	struct twin_answer twin_answer;
 };
 
-static union output output, twin_output, untouched;
+static union output untouched;
 
 static struct twin_answer plain(const struct kangirlo_answer *answer)
 {
@@ -36,24 +56,26 @@ static struct twin_answer plain(const struct kangirlo_answer *answer)
 		                     answer->records };
 }
 
-static void stop(const struct pair *pair, const char *what)
+static void stop(const struct given *given, const char *whose, const char *what)
 {
-	const struct twin_answer answer = plain(&pair->answer);
+	printf("entry %" PRIu64 " with %zu bytes of output: %s %s\n", given->entry, given->room, whose, what);
+	for (const struct way *way = ways; way < ways + WAYS; way++) {
+		const struct twin_answer answer = plain(&way->answer);
 
-	printf("entry %" PRIu64 " with %zu bytes of output: %s\n", pair->entry, pair->room, what);
-	same_print("ours", &answer);
-	same_print("twin", &pair->twin_answer);
+		same_print(way->name, &answer);
+	}
+	same_print("twin", &twin.answer);
 	fputs("message:", stdout);
-	for (size_t i = 0; i < pair->n; i++)
-		printf(" %02X", pair->message[i]);
+	for (size_t i = 0; i < given->n; i++)
+		printf(" %02X", given->message[i]);
 	putchar('\n');
 	exit(1);
 }
 
-static bool same_answer(const struct kangirlo_answer *ours, const struct twin_answer *twin)
+static bool same_answer(const struct kangirlo_answer *a, const struct twin_answer *b)
 {
-	return ours->refusal == twin->refusal && ours->injected == twin->injected && ours->ignored == twin->ignored &&
-	       ours->cancelled == twin->cancelled && ours->time.value == twin->time && ours->records == twin->records;
+	return a->refusal == b->refusal && a->injected == b->injected && a->ignored == b->ignored && a->cancelled == b->cancelled &&
+	       a->time.value == b->time && a->records == b->records;
 }
 
 /* Whether the output is as it was, from a byte on. */
@@ -69,61 +91,82 @@ static bool is_untouched(const union output *of, size_t from)
 	return true;
 }
 
-/* Lends the same room to both, and compares everything. Leaves the outputs untouched again. */
-static void receive(struct pair *pair, size_t room)
+/* Compares all that became of a message by one of the calls. Leaves its output untouched again. */
+static void compare(const struct given *given, struct way *way, const struct kangirlo_receiver *before)
 {
-	const struct kangirlo_receiver before = pair->receiver;
+	const size_t written = way->answer.records * KANGIRLO_RECORD_BYTES;
+
+	if (!same_answer(&way->answer, &twin.answer))
+		stop(given, way->name, "answers otherwise than the twin");
+	if (written > given->room)
+		stop(given, way->name, "writes more than there is room");
+	if (memcmp(way->output.bytes, twin.output.bytes, written) != 0)
+		stop(given, way->name, "writes other records than the twin");
+	if (!is_untouched(&way->output, written))
+		stop(given, way->name, "touches the output past its records");
+	if (way->answer.refusal != 0 && !same_fields(&way->receiver, before))
+		stop(given, way->name, "refuses, and changes its receiver");
+	if (!same_receiver(&way->receiver, &twin.receiver))
+		stop(given, way->name, "leaves another receiver than the twin");
+	if (!same_fields(&way->receiver, &ways[0].receiver))
+		stop(given, way->name, "leaves another receiver than the first call");
+	memcpy(way->output.bytes, untouched.bytes, written);
+}
+
+/* Lends so much room to all, and compares everything. */
+static void receive(struct given *given, size_t room)
+{
+	const struct kangirlo_receiver before = ways[0].receiver;
 	size_t written;
 
-	pair->room = room;
-	pair->answer = kangirlo_receive(&pair->receiver, pair->message, pair->n, output.bytes, room);
-	pair->twin_answer = twin_receive(&pair->twin, pair->message, pair->n, twin_output.bytes, room);
-	if (!same_answer(&pair->answer, &pair->twin_answer))
-		stop(pair, "the answers differ");
-	written = pair->answer.records * KANGIRLO_RECORD_BYTES;
-	if (written > room)
-		stop(pair, "more is written than there is room");
-	if (memcmp(output.bytes, twin_output.bytes, written) != 0)
-		stop(pair, "the records differ");
-	if (!is_untouched(&output, written))
-		stop(pair, "ours touched the output past its records");
-	if (!is_untouched(&twin_output, written))
-		stop(pair, "the twin touched the output past its records");
-	if (pair->answer.refusal != 0 && memcmp(&before, &pair->receiver, sizeof before) != 0)
-		stop(pair, "a refused message changed our receiver");
-	if (!same_receiver(&pair->receiver, &pair->twin))
-		stop(pair, "the receivers differ");
-	memcpy(output.bytes, untouched.bytes, written);
-	memcpy(twin_output.bytes, untouched.bytes, written);
+	given->room = room;
+	for (struct way *way = ways; way < ways + WAYS; way++)
+		way->answer = way->receive(&way->receiver, given->message, given->n, way->output.bytes, room);
+	twin.answer = twin_receive(&twin.receiver, given->message, given->n, twin.output.bytes, room);
+	for (struct way *way = ways; way < ways + WAYS; way++)
+		compare(given, way, &before);
+	written = twin.answer.records * TWIN_RECORD_BYTES;
+	if (!is_untouched(&twin.output, written))
+		stop(given, "the twin", "touches the output past its records");
+	memcpy(twin.output.bytes, untouched.bytes, written);
 }
 
 /* How many bytes a message would write. The twin is asked; if it is wrong, the calls differ. */
-static size_t need(const struct pair *pair)
+static size_t need(const struct given *given)
 {
 	static uint8_t trial[TWIN_OUTPUT_MOST];
-	struct twin twin = pair->twin;
+	struct twin receiver = twin.receiver;
 
-	return twin_receive(&twin, pair->message, pair->n, trial, sizeof trial).records * TWIN_RECORD_BYTES;
+	return twin_receive(&receiver, given->message, given->n, trial, sizeof trial).records * TWIN_RECORD_BYTES;
+}
+
+static void begin(void)
+{
+	for (size_t i = 0; i < OUTPUT_WORDS; i++)
+		untouched.words[i] = UNTOUCHED;
+	for (struct way *way = ways; way < ways + WAYS; way++) {
+		way->receiver = kangirlo_fresh();
+		way->output = untouched;
+	}
+	twin_fresh(&twin.receiver);
+	twin.output = untouched;
 }
 
 int main(void)
 {
 	struct entries entries = entries_load(stdin);
-	static struct pair pair;
+	struct given given = { 0 };
 
-	for (size_t i = 0; i < OUTPUT_WORDS; i++)
-		output.words[i] = twin_output.words[i] = untouched.words[i] = UNTOUCHED;
-	pair.receiver = kangirlo_fresh();
-	twin_fresh(&pair.twin);
-	while (entries_next(&entries, &pair.message, &pair.n)) {
-		const size_t bytes = need(&pair);
+	begin();
+	while (entries_next(&entries, &given.message, &given.n)) {
+		const size_t bytes = need(&given);
 
-		pair.entry++;
+		given.entry++;
 		if (bytes > 0)
-			receive(&pair, pair.entry % 2 == 0 ? bytes - 1 : pair.entry % bytes);
-		receive(&pair, pair.entry % 4 < 2 ? bytes : KANGIRLO_OUTPUT_MOST);
+			receive(&given, given.entry % 2 == 0 ? bytes - 1 : given.entry % bytes);
+		receive(&given, given.entry % 4 < 2 ? bytes : KANGIRLO_OUTPUT_MOST);
 	}
-	printf("%" PRIu64 "\n", pair.entry);
+	printf("%" PRIu64 "\n", given.entry);
 	free(entries.bytes);
 	return 0;
 }

@@ -1,25 +1,36 @@
 /* Every call of the header once more from C: that arguments, answers and fields arrive where the header says they are. What the calls do is
  * proved; this is for the boundary. Ends with 'N passed, M failed'. */
+#include "apart.h"
 #include "expect.h"
 #include "kangirlo.h"
 
 #include <string.h>
 
-/* The four messages of document 01's example. */
+/* The four messages of document 01's example, and the last once more, of contact 2. */
 static const uint8_t ready[] = {2, 0, 16, 0, 0, 0, 0, 0, 0, 0, 1, 0, 1, 0, 10, 0};
 static const uint8_t down[] = {3, 0, 17, 0, 0, 0, 0, 1, 1, 0, 1, 0, 0x40, 0x64, 0x40, 0x32, 0x19};
 static const uint8_t up[] = {3, 0, 17, 0, 0, 0, 0, 1, 1, 0, 1, 0, 0x40, 0x64, 0x40, 0x32, 0x04};
 static const uint8_t update[] = {3, 0, 17, 0, 0, 0, 0, 1, 1, 0, 1, 0, 0x40, 0x64, 0x40, 0x32, 0x1A};
+static const uint8_t other[] = {3, 0, 17, 0, 0, 0, 0, 1, 1, 0, 2, 0, 0x40, 0x64, 0x40, 0x32, 0x1A};
 
 /* At 70 ms, 40 us after the frame before: contact 3 hovers at -50, 900, with sides -5, 70, 5, -70, orientation 300, pressure 40000. */
 static const uint8_t full[] = {3,    0,    30,   0,    0,    0,    0x40, 0x46, 0x01, 0x01, 0x20, 0x28, 0x03, 0x07, 0x60,
                                0x32, 0x43, 0x84, 0x0A, 0x45, 0x80, 0x46, 0x05, 0xC0, 0x46, 0x41, 0x2C, 0x80, 0x9C, 0x40};
 
+enum { UNTOUCHED = 0xA5 };
+
 static uint8_t output[KANGIRLO_OUTPUT_MOST];
 
-static int answers(struct kangirlo_answer a, int refusal, int injected, int cancelled, size_t records)
+/* The two calls that are lent a receiver, which the header has twice. */
+struct way {
+	struct kangirlo_answer (*receive)(struct kangirlo_receiver *, const uint8_t *, size_t, uint8_t *, size_t);
+	struct kangirlo_batch (*receive_all)(struct kangirlo_receiver *, const uint8_t *, size_t, struct kangirlo_batch_answer *, size_t,
+	                                     uint8_t *, size_t);
+};
+
+static int answers(struct kangirlo_answer a, int refusal, int injected, int ignored, int cancelled, uint32_t time, size_t records)
 {
-	return a.refusal == refusal && a.injected == injected && a.ignored == 0 && a.cancelled == cancelled && a.time.value == 0
+	return a.refusal == refusal && a.injected == injected && a.ignored == ignored && a.cancelled == cancelled && a.time.value == time
 	       && a.records == records;
 }
 
@@ -28,7 +39,7 @@ static struct kangirlo_record record_at(size_t i)
 	return kangirlo_read_record(output + i * KANGIRLO_RECORD_BYTES, KANGIRLO_RECORD_BYTES);
 }
 
-static void test_receiver(void)
+static void test_receiver(const struct way *way)
 {
 	static const struct kangirlo_receiver zeros;
 	struct kangirlo_receiver r = kangirlo_fresh();
@@ -36,20 +47,22 @@ static void test_receiver(void)
 	EXPECT(memcmp(r.states, zeros.states, sizeof r.states) == 0 && memcmp(r.xs, zeros.xs, sizeof r.xs) == 0);
 	EXPECT(memcmp(r.ys, zeros.ys, sizeof r.ys) == 0 && r.ready == 0 && r.begun == 0 && r.ignoring == 0);
 	EXPECT(r.settings.flags == 0 && r.settings.version == 0 && r.settings.most == 0);
-	EXPECT(answers(kangirlo_receive(&r, down, sizeof down, output, sizeof output), KANGIRLO_UNEXPECTED, 0, 0, 0));
-	EXPECT(answers(kangirlo_receive(&r, ready, sizeof ready, output, sizeof output), KANGIRLO_TAKEN, 0, 0, 0));
+	EXPECT(answers(way->receive(&r, down, sizeof down, output, sizeof output), KANGIRLO_UNEXPECTED, 0, 0, 0, 0, 0));
+	EXPECT(answers(way->receive(&r, ready, sizeof ready, output, sizeof output), KANGIRLO_TAKEN, 0, 0, 0, 0, 0));
 	EXPECT(r.ready == 1 && r.settings.flags == 0 && r.settings.version == 0x00010001 && r.settings.most == 10);
-	EXPECT(answers(kangirlo_receive(&r, down, sizeof down, output, 41), KANGIRLO_NO_ROOM, 0, 0, 0));
+	EXPECT(answers(way->receive(&r, down, sizeof down, output, 41), KANGIRLO_NO_ROOM, 0, 0, 0, 0, 0));
 	EXPECT(r.begun == 0 && r.states[1] == 0);
-	EXPECT(answers(kangirlo_receive(&r, down, sizeof down, output, 42), KANGIRLO_TAKEN, 1, 0, 2));
+	EXPECT(answers(way->receive(&r, down, sizeof down, output, 42), KANGIRLO_TAKEN, 1, 0, 0, 0, 2));
 	EXPECT(r.begun == 1 && r.states[1] == 2 && r.xs[1] == 100 && r.ys[1] == 50);
 	EXPECT(record_at(0).kind == KANGIRLO_HEAD && record_at(0).count == 1);
 	EXPECT(record_at(1).kind == KANGIRLO_CONTACT && record_at(1).flags == 0x19 && record_at(1).id == 1 && record_at(1).x == 100);
-	EXPECT(answers(kangirlo_receive(&r, up, sizeof up, output, sizeof output), KANGIRLO_TAKEN, 1, 0, 2));
+	EXPECT(answers(way->receive(&r, up, sizeof up, output, sizeof output), KANGIRLO_TAKEN, 1, 0, 0, 0, 2));
 	EXPECT(r.states[1] == 0 && r.xs[1] == 0 && r.ys[1] == 0 && r.ignoring == 0);
-	EXPECT(answers(kangirlo_receive(&r, update, sizeof update, output, sizeof output), KANGIRLO_TAKEN, 0, 1, 0));
+	EXPECT(answers(way->receive(&r, update, sizeof update, output, sizeof output), KANGIRLO_TAKEN, 0, 0, 1, 0, 0));
 	EXPECT(r.ignoring == 1);
-	EXPECT(answers(kangirlo_receive(&r, ready, 0, output, sizeof output), KANGIRLO_SHORT, 0, 0, 0));
+	EXPECT(answers(way->receive(&r, full, sizeof full, output, sizeof output), KANGIRLO_TAKEN, 0, 1, 0, 70, 0));
+	EXPECT(r.ignoring == 1 && r.states[3] == 0);
+	EXPECT(answers(way->receive(&r, ready, 0, output, sizeof output), KANGIRLO_SHORT, 0, 0, 0, 0, 0));
 }
 
 /* Puts an entry behind those before: a message's length, and its bytes. Answers where the next goes. */
@@ -68,38 +81,154 @@ static int has(struct kangirlo_batch_answer a, uint32_t refusal, uint32_t inject
 	       && a.records == records;
 }
 
-/* Lends so many bytes of a buffer and so many numbers, and looks at the answer. */
-static int batches(struct kangirlo_receiver *r, const uint8_t *buffer, size_t length, struct kangirlo_batch_answer *a, size_t numbers,
-                   int refusal, size_t entries, size_t records)
+static int counts(struct kangirlo_batch b, int refusal, size_t entries, size_t records)
 {
-	struct kangirlo_batch b = kangirlo_receive_all(r, buffer, length, a, numbers, output, sizeof output);
-
 	return b.refusal == refusal && b.entries == entries && b.records == records;
 }
 
-/* Ready, down, one that is short, the full one at 70 ms with an offset, and an update of another contact, which is cancelled. */
-static void test_batch(void)
+/* Lends so many bytes of a buffer and so many numbers, and looks at the answer. */
+static int batches(const struct way *way, struct kangirlo_receiver *r, const uint8_t *buffer, size_t length,
+                   struct kangirlo_batch_answer *a, size_t numbers, int refusal, size_t entries, size_t records)
 {
-	static const uint8_t other[] = {3, 0, 17, 0, 0, 0, 0, 1, 1, 0, 2, 0, 0x40, 0x64, 0x40, 0x32, 0x1A};
-	struct kangirlo_batch_answer a[6] = {[5] = {1, 2, 3, 4, 5, 6}};
-	struct kangirlo_receiver r = kangirlo_fresh();
-	uint8_t buffer[128];
+	return counts(way->receive_all(r, buffer, length, a, numbers, output, sizeof output), refusal, entries, records);
+}
+
+/* Ready, down, one that is short, the full one at 70 ms with an offset, and an update of another contact, which is cancelled. Answers how
+ * many bytes they are. */
+static size_t put_five(uint8_t *buffer)
+{
 	size_t n = put_entry(buffer, 0, ready, sizeof ready);
 
 	n = put_entry(buffer, n, down, sizeof down);
 	n = put_entry(buffer, n, down, 5);
 	n = put_entry(buffer, n, full, sizeof full);
-	n = put_entry(buffer, n, other, sizeof other);
-	EXPECT(batches(&r, buffer, n - 1, a, KANGIRLO_BATCH_NUMBERS(6), KANGIRLO_BAD_BATCH, 0, 0));
-	EXPECT(batches(&r, buffer, n, a, KANGIRLO_BATCH_NUMBERS(5) - 1, KANGIRLO_BAD_BATCH, 0, 0));
+	return put_entry(buffer, n, other, sizeof other);
+}
+
+static void test_batch(const struct way *way)
+{
+	struct kangirlo_batch_answer a[6] = {[5] = {1, 2, 3, 4, 5, 6}};
+	struct kangirlo_receiver r = kangirlo_fresh();
+	uint8_t buffer[128];
+	size_t n = put_five(buffer);
+
+	EXPECT(batches(way, &r, buffer, n - 1, a, KANGIRLO_BATCH_NUMBERS(6), KANGIRLO_BAD_BATCH, 0, 0));
+	EXPECT(batches(way, &r, buffer, n, a, KANGIRLO_BATCH_NUMBERS(5) - 1, KANGIRLO_BAD_BATCH, 0, 0));
 	EXPECT(r.ready == 0 && has(a[0], 0, 0, 0, 0, 0));
-	EXPECT(batches(&r, buffer, n, a, KANGIRLO_BATCH_NUMBERS(6), KANGIRLO_TAKEN, 5, 6));
+	EXPECT(batches(way, &r, buffer, n, a, KANGIRLO_BATCH_NUMBERS(6), KANGIRLO_TAKEN, 5, 6));
 	EXPECT(has(a[0], KANGIRLO_TAKEN, 0, 0, 0, 0) && has(a[1], KANGIRLO_TAKEN, 1, 0, 0, 2) && has(a[2], KANGIRLO_SHORT, 0, 0, 0, 0));
 	EXPECT(has(a[3], KANGIRLO_TAKEN, 1, 0, 70, 2) && has(a[4], KANGIRLO_TAKEN, 0, 1, 0, 2));
 	EXPECT(a[5].refusal == 1 && a[5].injected == 2 && a[5].ignored == 3 && a[5].cancelled == 4 && a[5].time == 5);
 	EXPECT(record_at(1).id == 1 && record_at(3).id == 3 && record_at(4).kind == KANGIRLO_CANCEL && a[5].records == 6);
 	EXPECT(r.ready == 1 && r.begun == 1 && r.ignoring == 1 && r.states[1] == 0 && r.settings.most == 10);
-	EXPECT(batches(&r, buffer, 0, a, 0, KANGIRLO_TAKEN, 0, 0));
+	EXPECT(batches(way, &r, buffer, 0, a, 0, KANGIRLO_TAKEN, 0, 0));
+}
+
+/* The contacts of a receiver in parts, and what they have to be. */
+static struct apart parts, kept;
+
+/* Marks that are all different, to see each arrive and come back. */
+static const struct kangirlo_marks odd = {3, 5, 7, {0x01020304, 0x05060708, 0x090A}};
+
+static int same_marks(struct kangirlo_marks a, struct kangirlo_marks b)
+{
+	return a.ready == b.ready && a.begun == b.begun && a.ignoring == b.ignoring && a.settings.flags == b.settings.flags
+	       && a.settings.version == b.settings.version && a.settings.most == b.settings.most;
+}
+
+/* Contact 7 hovers, and nothing is written. */
+static void lay_out(void)
+{
+	memset(&kept, 0, sizeof kept);
+	apart_put(&kept, 7, 1, -9, 11);
+	parts = kept;
+	memset(output, UNTOUCHED, sizeof output);
+}
+
+/* The contacts are those that are kept, and the output is untouched but for so many records. */
+static int left_with(size_t records)
+{
+	size_t at = records * KANGIRLO_RECORD_BYTES;
+
+	while (at < sizeof output && output[at] == UNTOUCHED)
+		at++;
+	return at == sizeof output && memcmp(&parts, &kept, sizeof parts) == 0;
+}
+
+static struct kangirlo_turn receive_parts(struct kangirlo_marks marks, const uint8_t *message, size_t length, size_t room)
+{
+	return kangirlo_receive_parts(marks, message, length, output, room, parts.states, parts.xs, parts.ys);
+}
+
+static void test_marks(void)
+{
+	struct kangirlo_receiver r = kangirlo_fresh();
+
+	kangirlo_keep_marks(&r, odd);
+	EXPECT(r.ready == 3 && r.begun == 5 && r.ignoring == 7 && r.settings.flags == 0x01020304 && r.settings.version == 0x05060708);
+	EXPECT(r.settings.most == 0x090A && same_marks(kangirlo_marks_of(&r), odd));
+}
+
+static void test_parts(void)
+{
+	static const uint8_t client[] = {2, 0, 16, 0, 0, 0, 1, 0, 0, 0, 0, 0, 1, 0, 0x34, 0x12};
+	const struct kangirlo_marks fresh = {0}, begun = {1, 1, 0, {1, 0x00010000, 0x1234}}, ignoring = {1, 1, 1, begun.settings};
+	struct kangirlo_marks greeted = begun;
+	struct kangirlo_turn t;
+
+	greeted.begun = 0;
+	lay_out();
+	t = receive_parts(odd, down, 5, sizeof output);
+	EXPECT(same_marks(t.marks, odd) && answers(t.answer, KANGIRLO_SHORT, 0, 0, 0, 0, 0) && left_with(0));
+	t = receive_parts(fresh, client, sizeof client, 0);
+	EXPECT(same_marks(t.marks, greeted) && answers(t.answer, KANGIRLO_TAKEN, 0, 0, 0, 0, 0) && left_with(0));
+	t = receive_parts(greeted, down, sizeof down, 41);
+	EXPECT(same_marks(t.marks, greeted) && answers(t.answer, KANGIRLO_NO_ROOM, 0, 0, 0, 0, 0) && left_with(0));
+	t = receive_parts(greeted, down, sizeof down, 42);
+	apart_put(&kept, 1, 2, 100, 50);
+	EXPECT(same_marks(t.marks, begun) && answers(t.answer, KANGIRLO_TAKEN, 1, 0, 0, 0, 2) && left_with(2));
+	EXPECT(record_at(0).kind == KANGIRLO_HEAD && record_at(0).count == 1);
+	EXPECT(record_at(1).kind == KANGIRLO_CONTACT && record_at(1).id == 1 && record_at(1).x == 100 && record_at(1).y == 50);
+	t = receive_parts(begun, full, sizeof full, sizeof output);
+	apart_put(&kept, 3, 1, -50, 900);
+	EXPECT(same_marks(t.marks, begun) && answers(t.answer, KANGIRLO_TAKEN, 1, 0, 0, 70, 2) && left_with(2));
+	t = receive_parts(begun, other, sizeof other, sizeof output);
+	memset(&kept, 0, sizeof kept);
+	EXPECT(same_marks(t.marks, ignoring) && answers(t.answer, KANGIRLO_TAKEN, 0, 0, 1, 0, 3) && left_with(3));
+	EXPECT(record_at(2).kind == KANGIRLO_CANCEL && record_at(2).id == 7 && record_at(2).x == -9 && record_at(2).y == 11);
+	t = receive_parts(ignoring, other, sizeof other, 0);
+	EXPECT(same_marks(t.marks, ignoring) && answers(t.answer, KANGIRLO_TAKEN, 0, 1, 0, 0, 0) && left_with(3));
+}
+
+static struct kangirlo_batch_turn receive_all_parts(struct kangirlo_marks marks, const uint8_t *buffer, size_t length,
+                                                    struct kangirlo_batch_answer *a, size_t numbers, size_t room)
+{
+	return kangirlo_receive_all_parts(marks, buffer, length, a, numbers, output, room, parts.states, parts.xs, parts.ys);
+}
+
+/* The five of a batch: refused, with too little room for the last two, and with enough. */
+static void test_batch_parts(void)
+{
+	const struct kangirlo_marks fresh = {0}, begun = {1, 1, 0, {0, 0x00010001, 10}}, ignoring = {1, 1, 1, begun.settings};
+	struct kangirlo_batch_answer a[6] = {[5] = {1, 2, 3, 4, 5, 6}};
+	struct kangirlo_batch_turn t;
+	uint8_t buffer[128];
+	size_t n = put_five(buffer);
+
+	lay_out();
+	t = receive_all_parts(odd, buffer, n, a, KANGIRLO_BATCH_NUMBERS(5) - 1, sizeof output);
+	EXPECT(same_marks(t.marks, odd) && counts(t.batch, KANGIRLO_BAD_BATCH, 0, 0) && has(a[0], 0, 0, 0, 0, 0) && left_with(0));
+	t = receive_all_parts(fresh, buffer, n, a, KANGIRLO_BATCH_NUMBERS(6), 83);
+	apart_put(&kept, 1, 2, 100, 50);
+	EXPECT(same_marks(t.marks, begun) && counts(t.batch, KANGIRLO_TAKEN, 5, 2) && left_with(2));
+	EXPECT(has(a[0], KANGIRLO_TAKEN, 0, 0, 0, 0) && has(a[1], KANGIRLO_TAKEN, 1, 0, 0, 2) && has(a[2], KANGIRLO_SHORT, 0, 0, 0, 0));
+	EXPECT(has(a[3], KANGIRLO_NO_ROOM, 0, 0, 0, 0) && has(a[4], KANGIRLO_NO_ROOM, 0, 0, 0, 0));
+	lay_out();
+	t = receive_all_parts(fresh, buffer, n, a, KANGIRLO_BATCH_NUMBERS(6), sizeof output);
+	memset(&kept, 0, sizeof kept);
+	EXPECT(same_marks(t.marks, ignoring) && counts(t.batch, KANGIRLO_TAKEN, 5, 7) && left_with(7));
+	EXPECT(has(a[3], KANGIRLO_TAKEN, 1, 0, 70, 2) && has(a[4], KANGIRLO_TAKEN, 0, 1, 0, 3) && record_at(6).id == 7);
+	EXPECT(a[5].refusal == 1 && a[5].records == 6);
 }
 
 static void test_plain(void)
@@ -145,8 +274,16 @@ static void test_writers(void)
 
 int main(void)
 {
-	test_receiver();
-	test_batch();
+	static const struct way whole = {kangirlo_receive, kangirlo_receive_all};
+	static const struct way direct = {kangirlo_receive_direct, kangirlo_receive_all_direct};
+
+	test_receiver(&whole);
+	test_receiver(&direct);
+	test_batch(&whole);
+	test_batch(&direct);
+	test_marks();
+	test_parts();
+	test_batch_parts();
 	test_plain();
 	test_writers();
 	return expect_end();

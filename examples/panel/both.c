@@ -1,6 +1,6 @@
 /* A panel and a session host in one program, each with what it keeps, and nothing between them but messages. Every message of the panel
- * goes to the host's receiver, whose records must be, byte for byte, those that the panel was given; then the two ends must agree. Prints
- * what it does, and ends with 'N passed, M failed'. */
+ * goes to the host's receiver, whose records must be, byte for byte, those that the panel was given; then the two ends must agree. The
+ * panel makes each call both ways (sender.h), the host one or the other. Prints what it does, and ends with 'N passed, M failed'. */
 #include "batch.h"
 #include "expect.h"
 #include "pack.h"
@@ -32,15 +32,17 @@ static void host_sends(const char *what, struct kangirlo_written written)
 {
 	printf("host:  %s\n", what);
 	EXPECT(written.refusal == KANGIRLO_TAKEN);
-	EXPECT(kangirlo_panel_take(&sender.panel, from_host, written.bytes) == KANGIRLO_TAKEN);
+	EXPECT(sender_take(&sender, from_host, written.bytes) == KANGIRLO_TAKEN);
 	EXPECT(ends_agree());
 	kept = sender;
 }
 
-/* What the panel wrote arrives at the host. */
+/* What the panel wrote arrives at the host, which takes every other message by the direct call. */
 static void panel_sends(const char *what, struct kangirlo_written written, const struct batch *expected)
 {
-	struct kangirlo_answer answer = kangirlo_receive(&receiver, sender.message, written.bytes, output, sizeof output);
+	static bool direct;
+	struct kangirlo_answer answer = (direct ? kangirlo_receive_direct : kangirlo_receive)(&receiver, sender.message, written.bytes,
+	                                                                                      output, sizeof output);
 
 	printf("panel: %s, %zu bytes; the host has %zu records of it\n", what, written.bytes, answer.records);
 	EXPECT(written.refusal == KANGIRLO_TAKEN);
@@ -49,6 +51,7 @@ static void panel_sends(const char *what, struct kangirlo_written written, const
 	EXPECT(memcmp(output, expected->bytes, expected->length) == 0);
 	EXPECT(ends_agree());
 	kept = sender;
+	direct = !direct;
 }
 
 /* What the panel would not write: nothing has changed. */
@@ -60,25 +63,15 @@ static void panel_refuses(const char *what, struct kangirlo_written written, enu
 	EXPECT(ends_agree());
 }
 
-static struct kangirlo_written ready(uint32_t flags)
-{
-	return kangirlo_panel_write_ready(&sender.panel, sender.message, sizeof sender.message, flags, VERSION, FINGERS);
-}
-
-static struct kangirlo_written dismiss(uint8_t id)
-{
-	return kangirlo_panel_write_dismiss(&sender.panel, sender.message, sizeof sender.message, id);
-}
-
 static void open_connection(uint32_t flags)
 {
-	sender.panel = kangirlo_panel_fresh();
+	sender_begin(&sender, 0);
 	kept = sender;
 	receiver = kangirlo_fresh();
-	panel_refuses("client ready before server ready", ready(flags), KANGIRLO_NOT_READY);
+	panel_refuses("client ready before server ready", sender_ready(&sender, flags, VERSION, FINGERS), KANGIRLO_NOT_READY);
 	host_sends("server ready", kangirlo_write_server_ready(from_host, sizeof from_host, VERSION));
 	panel_refuses("touch before client ready", sender_touch(&sender, 0, &nothing), KANGIRLO_NOT_READY);
-	panel_sends("client ready", ready(flags), &nothing);
+	panel_sends("client ready", sender_ready(&sender, flags, VERSION, FINGERS), &nothing);
 }
 
 static void offset_too_early(void)
@@ -147,7 +140,7 @@ static void illegal(void)
 	batch_contact(&batch, DOWN, 8, 0, 0);
 	batch_contact(&batch, DOWN, 9, 0, 0);
 	panel_refuses("more fingers than its client ready said", sender_touch(&sender, 4, &batch), KANGIRLO_ILLEGAL);
-	panel_refuses("a dismissal of a finger that is not there", dismiss(2), KANGIRLO_ILLEGAL);
+	panel_refuses("a dismissal of a finger that is not there", sender_dismiss(&sender, 2), KANGIRLO_ILLEGAL);
 }
 
 static void suspended_and_resumed(void)
@@ -160,8 +153,8 @@ static void suspended_and_resumed(void)
 	batch_contact(&batch, DOWN, 1, 120, 60);
 	panel_refuses("a finger down while suspended", sender_touch(&sender, 4, &batch), KANGIRLO_SUSPENDED);
 	batch_record(&dismissal, (struct kangirlo_record){.kind = KANGIRLO_DISMISSAL, .flags = LEAVE, .id = 7, .x = 20, .y = 30});
-	panel_sends("a dismissal while suspended", dismiss(7), &dismissal);
-	panel_refuses("the same dismissal again", dismiss(7), KANGIRLO_ILLEGAL);
+	panel_sends("a dismissal while suspended", sender_dismiss(&sender, 7), &dismissal);
+	panel_refuses("the same dismissal again", sender_dismiss(&sender, 7), KANGIRLO_ILLEGAL);
 	host_sends("resume", kangirlo_write_resume(from_host, sizeof from_host));
 	panel_sends("the finger that was refused, down", sender_touch(&sender, 4, &batch), &batch);
 }

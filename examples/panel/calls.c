@@ -1,6 +1,7 @@
 /* Every call of a panel from C, with each refusal that it can give; where several could be given, with the first of them. After a refusal
- * the panel and the output are looked at: nothing may have changed. What the calls do is proved; this is for the boundary. Ends with
- * 'N passed, M failed'. */
+ * the panel and the output are looked at: nothing may have changed. Each call is made both ways (sender.h), and for a panel in
+ * parts. What the calls do is proved; this is for the boundary. Ends with 'N passed, M failed'. */
+#include "apart.h"
 #include "batch.h"
 #include "expect.h"
 #include "sender.h"
@@ -18,14 +19,13 @@ static struct sender sender, kept;
 /* A fresh panel and an output that nothing has written to. */
 static void begin(void)
 {
-	sender.panel = kangirlo_panel_fresh();
-	memset(sender.message, UNTOUCHED, sizeof sender.message);
+	sender_begin(&sender, UNTOUCHED);
 	kept = sender;
 }
 
 static int takes(const uint8_t *message, size_t length)
 {
-	int taken = kangirlo_panel_take(&sender.panel, message, length) == KANGIRLO_TAKEN;
+	int taken = sender_take(&sender, message, length) == KANGIRLO_TAKEN;
 
 	kept = sender;
 	return taken;
@@ -33,7 +33,7 @@ static int takes(const uint8_t *message, size_t length)
 
 static int rejects(const uint8_t *message, size_t length, enum kangirlo_refusal refusal)
 {
-	return kangirlo_panel_take(&sender.panel, message, length) == refusal && sender_same(&sender, &kept);
+	return sender_take(&sender, message, length) == refusal && sender_same(&sender, &kept);
 }
 
 /* Written: these bytes, and nothing past them touched. */
@@ -51,32 +51,12 @@ static int refused(struct kangirlo_written written, enum kangirlo_refusal refusa
 	return written.refusal == refusal && written.bytes == 0 && sender_same(&sender, &kept);
 }
 
-static struct kangirlo_written ready_in(size_t room, uint32_t flags, uint32_t version, uint16_t most)
-{
-	return kangirlo_panel_write_ready(&sender.panel, sender.message, room, flags, version, most);
-}
-
-static struct kangirlo_written ready(uint32_t flags, uint32_t version, uint16_t most)
-{
-	return ready_in(sizeof sender.message, flags, version, most);
-}
-
-static struct kangirlo_written dismiss_in(size_t room, uint8_t id)
-{
-	return kangirlo_panel_write_dismiss(&sender.panel, sender.message, room, id);
-}
-
-static struct kangirlo_written dismiss(uint8_t id)
-{
-	return dismiss_in(sizeof sender.message, id);
-}
-
 /* A panel that has taken server ready and written client ready. */
 static void begin_ready(uint32_t flags)
 {
 	begin();
 	EXPECT(takes(server_ready, sizeof server_ready));
-	EXPECT(ready(flags, VERSION, ALL_CONTACTS).refusal == KANGIRLO_TAKEN);
+	EXPECT(sender_ready(&sender, flags, VERSION, ALL_CONTACTS).refusal == KANGIRLO_TAKEN);
 	kept = sender;
 }
 
@@ -84,8 +64,7 @@ static void test_fresh(void)
 {
 	static const struct sender zeros;
 
-	sender.panel = kangirlo_panel_fresh();
-	memset(sender.message, 0, sizeof sender.message);
+	sender_begin(&sender, 0);
 	EXPECT(sender_same(&sender, &zeros));
 }
 
@@ -127,16 +106,16 @@ static void test_ready(void)
 	static const uint8_t client_ready[] = {2, 0, 16, 0, 0, 0, 3, 0, 0, 0, 0, 0, 1, 0, 0x34, 0x12};
 
 	begin();
-	EXPECT(refused(ready_in(0, 4, 0, 10), KANGIRLO_NOT_READY));
+	EXPECT(refused(sender_ready_in(&sender, 0, 4, 0, 10), KANGIRLO_NOT_READY));
 	EXPECT(takes(server_ready, sizeof server_ready));
 	EXPECT(takes(suspend, sizeof suspend));
-	EXPECT(refused(ready_in(0, 4, VERSION, 10), KANGIRLO_BAD_FIELD));
-	EXPECT(refused(ready_in(0, 0, VERSION + 1, 10), KANGIRLO_BAD_FIELD));
-	EXPECT(refused(ready_in(15, 0, VERSION, 10), KANGIRLO_NO_ROOM));
-	EXPECT(wrote(ready_in(16, 3, 0x00010000, 0x1234), client_ready, sizeof client_ready));
+	EXPECT(refused(sender_ready_in(&sender, 0, 4, VERSION, 10), KANGIRLO_BAD_FIELD));
+	EXPECT(refused(sender_ready_in(&sender, 0, 0, VERSION + 1, 10), KANGIRLO_BAD_FIELD));
+	EXPECT(refused(sender_ready_in(&sender, 15, 0, VERSION, 10), KANGIRLO_NO_ROOM));
+	EXPECT(wrote(sender_ready_in(&sender, 16, 3, 0x00010000, 0x1234), client_ready, sizeof client_ready));
 	EXPECT(sender.panel.ready == 1 && sender.panel.suspended == 1 && sender.panel.begun == 0);
 	EXPECT(sender.panel.settings.flags == 3 && sender.panel.settings.version == 0x00010000 && sender.panel.settings.most == 0x1234);
-	EXPECT(refused(ready(0, VERSION, 10), KANGIRLO_NOT_READY));
+	EXPECT(refused(sender_ready(&sender, 0, VERSION, 10), KANGIRLO_NOT_READY));
 }
 
 /* So many empty frames, of which the last may have a contact that moves without having come. */
@@ -173,7 +152,6 @@ static void test_touch_refusals(void)
 {
 	struct batch stray = frames(FRAMES_MOST + 1, 5, true), late = frames(FRAMES_MOST + 1, 5, false);
 	struct batch many = frames(FRAMES_MOST + 1, 0, false), broken = stray, wide = crowd(), one = frames(1, 0, false);
-	struct kangirlo_milliseconds time = {0};
 
 	broken.length--;
 	begin();
@@ -182,15 +160,15 @@ static void test_touch_refusals(void)
 	EXPECT(refused(sender_touch(&sender, TIME_MOST + 1, &broken), KANGIRLO_BAD_RANGE));
 	EXPECT(refused(sender_touch(&sender, TIME_MOST, &broken), KANGIRLO_BAD_RECORD));
 	EXPECT(refused(sender_touch(&sender, TIME_MOST, &stray), KANGIRLO_NOT_READY));
-	EXPECT(ready(0, VERSION, ALL_CONTACTS).refusal == KANGIRLO_TAKEN);
+	EXPECT(sender_ready(&sender, 0, VERSION, ALL_CONTACTS).refusal == KANGIRLO_TAKEN);
 	kept = sender;
 	EXPECT(refused(sender_touch(&sender, TIME_MOST, &stray), KANGIRLO_SUSPENDED));
 	EXPECT(takes(resume, sizeof resume));
 	EXPECT(refused(sender_touch(&sender, TIME_MOST, &stray), KANGIRLO_ILLEGAL));
 	EXPECT(refused(sender_touch(&sender, TIME_MOST, &late), KANGIRLO_BAD_OFFSET));
 	EXPECT(refused(sender_touch(&sender, TIME_MOST, &many), KANGIRLO_BAD_COUNT));
-	EXPECT(refused(kangirlo_panel_write_touch(&sender.panel, sender.message, 0, time, wide.bytes, wide.length), KANGIRLO_TOO_LONG));
-	EXPECT(refused(kangirlo_panel_write_touch(&sender.panel, sender.message, 9, time, one.bytes, one.length), KANGIRLO_NO_ROOM));
+	EXPECT(refused(sender_touch_in(&sender, 0, 0, &wide), KANGIRLO_TOO_LONG));
+	EXPECT(refused(sender_touch_in(&sender, 9, 0, &one), KANGIRLO_NO_ROOM));
 }
 
 /* A record that is not well formed: flags that are not listed, and a dismissal. */
@@ -212,14 +190,13 @@ static void test_touch(void)
 	static const uint8_t down[] = {3, 0, 17, 0, 0, 0, 0, 1, 1, 0, 1, 0, 0x40, 0x64, 0x40, 0x32, 0x19};
 	static const uint8_t none[] = {3, 0, 8, 0, 0, 0, 9, 0};
 	struct batch batch = {0};
-	struct kangirlo_milliseconds time = {0};
 
 	begin_ready(0);
 	EXPECT(wrote(sender_touch(&sender, 9, &batch), none, sizeof none) && sender.panel.begun == 0);
 	batch_head(&batch, 1, 0);
 	batch_contact(&batch, DOWN, 1, 100, 50);
-	EXPECT(refused(kangirlo_panel_write_touch(&sender.panel, sender.message, 16, time, batch.bytes, batch.length), KANGIRLO_NO_ROOM));
-	EXPECT(wrote(kangirlo_panel_write_touch(&sender.panel, sender.message, 17, time, batch.bytes, batch.length), down, sizeof down));
+	EXPECT(refused(sender_touch_in(&sender, 16, 0, &batch), KANGIRLO_NO_ROOM));
+	EXPECT(wrote(sender_touch_in(&sender, 17, 0, &batch), down, sizeof down));
 	EXPECT(sender.panel.begun == 1 && sender.panel.states[1] == 2 && sender.panel.xs[1] == 100 && sender.panel.ys[1] == 50);
 	EXPECT(refused(sender_touch(&sender, 0, &batch), KANGIRLO_ILLEGAL));
 }
@@ -242,19 +219,134 @@ static void test_dismiss(void)
 	struct batch batch = {0};
 
 	begin();
-	EXPECT(refused(dismiss_in(0, 200), KANGIRLO_NOT_READY));
+	EXPECT(refused(sender_dismiss_in(&sender, 0, 200), KANGIRLO_NOT_READY));
 	begin_ready(0);
 	batch_head(&batch, 2, 0);
 	batch_contact(&batch, DOWN, 1, 100, 50);
 	batch_contact(&batch, HOVER, 200, -7, 8);
 	EXPECT(sender_touch(&sender, 0, &batch).refusal == KANGIRLO_TAKEN && sender.panel.xs[200] == -7);
 	EXPECT(takes(suspend, sizeof suspend));
-	EXPECT(refused(dismiss_in(0, 1), KANGIRLO_ILLEGAL));
-	EXPECT(refused(dismiss(2), KANGIRLO_ILLEGAL));
-	EXPECT(refused(dismiss_in(6, 200), KANGIRLO_NO_ROOM));
-	EXPECT(wrote(dismiss_in(7, 200), message, sizeof message));
+	EXPECT(refused(sender_dismiss_in(&sender, 0, 1), KANGIRLO_ILLEGAL));
+	EXPECT(refused(sender_dismiss(&sender, 2), KANGIRLO_ILLEGAL));
+	EXPECT(refused(sender_dismiss_in(&sender, 6, 200), KANGIRLO_NO_ROOM));
+	EXPECT(wrote(sender_dismiss_in(&sender, 7, 200), message, sizeof message));
 	EXPECT(sender.panel.states[200] == 0 && sender.panel.xs[200] == 0 && sender.panel.ys[200] == 0 && sender.panel.states[1] == 2);
-	EXPECT(refused(dismiss(200), KANGIRLO_ILLEGAL));
+	EXPECT(refused(sender_dismiss(&sender, 200), KANGIRLO_ILLEGAL));
+}
+
+/* The contacts of a panel in parts, and what they have to be; and an output, likewise. */
+static struct apart parts, kept_parts;
+static uint8_t output[KANGIRLO_MESSAGE_MOST], kept_output[KANGIRLO_MESSAGE_MOST];
+
+/* Marks that are all different, to see each arrive and come back. */
+static const struct kangirlo_panel_marks odd = {3, 5, 7, 9, {0x01020304, 0x05060708, 0x090A}};
+
+/* Contact 7 hovers, and nothing is written. */
+static void lay_out(void)
+{
+	memset(&kept_parts, 0, sizeof kept_parts);
+	apart_put(&kept_parts, 7, 1, -9, 11);
+	parts = kept_parts;
+	memset(kept_output, UNTOUCHED, sizeof kept_output);
+	memcpy(output, kept_output, sizeof output);
+}
+
+static int same_marks(struct kangirlo_panel_marks a, struct kangirlo_panel_marks b)
+{
+	return a.greeted == b.greeted && a.ready == b.ready && a.suspended == b.suspended && a.begun == b.begun
+	       && a.settings.flags == b.settings.flags && a.settings.version == b.settings.version && a.settings.most == b.settings.most;
+}
+
+/* These marks and this answer, and the contacts and the output that are kept. */
+static int said(struct kangirlo_panel_said s, struct kangirlo_panel_marks marks, int refusal, size_t bytes)
+{
+	return same_marks(s.marks, marks) && s.written.refusal == refusal && s.written.bytes == bytes
+	       && memcmp(&parts, &kept_parts, sizeof parts) == 0 && memcmp(output, kept_output, sizeof output) == 0;
+}
+
+static int heard(struct kangirlo_panel_heard h, struct kangirlo_panel_marks marks, int refusal)
+{
+	return same_marks(h.marks, marks) && h.refusal == refusal;
+}
+
+static void test_marks(void)
+{
+	struct kangirlo_panel p = kangirlo_panel_fresh();
+
+	kangirlo_panel_keep_marks(&p, odd);
+	EXPECT(p.greeted == 3 && p.ready == 5 && p.suspended == 7 && p.begun == 9 && p.settings.flags == 0x01020304);
+	EXPECT(p.settings.version == 0x05060708 && p.settings.most == 0x090A && same_marks(kangirlo_panel_marks_of(&p), odd));
+}
+
+static void test_parts_taken(void)
+{
+	const struct kangirlo_panel_marks fresh = {0}, greeted = {.greeted = 1};
+	struct kangirlo_panel_marks resumed = odd, suspended = odd;
+
+	resumed.suspended = 0;
+	suspended.suspended = 1;
+	EXPECT(heard(kangirlo_panel_take_parts(odd, server_ready, sizeof server_ready), odd, KANGIRLO_UNEXPECTED));
+	EXPECT(heard(kangirlo_panel_take_parts(fresh, server_ready, 5), fresh, KANGIRLO_SHORT));
+	EXPECT(heard(kangirlo_panel_take_parts(fresh, server_ready, sizeof server_ready), greeted, KANGIRLO_TAKEN));
+	EXPECT(heard(kangirlo_panel_take_parts(odd, resume, sizeof resume), resumed, KANGIRLO_TAKEN));
+	EXPECT(heard(kangirlo_panel_take_parts(resumed, suspend, sizeof suspend), suspended, KANGIRLO_TAKEN));
+}
+
+static void test_parts_ready(void)
+{
+	static const uint8_t client_ready[] = {2, 0, 16, 0, 0, 0, 3, 0, 0, 0, 0, 0, 1, 0, 0x34, 0x12};
+	const struct kangirlo_panel_marks greeted = {.greeted = 1, .suspended = 1}, ready = {1, 1, 1, 0, {3, 0x00010000, 0x1234}};
+
+	lay_out();
+	EXPECT(said(kangirlo_panel_write_ready_parts(odd, output, sizeof output, 3, VERSION, 10), odd, KANGIRLO_NOT_READY, 0));
+	EXPECT(said(kangirlo_panel_write_ready_parts(greeted, output, 15, 3, 0x00010000, 0x1234), greeted, KANGIRLO_NO_ROOM, 0));
+	memcpy(kept_output, client_ready, sizeof client_ready);
+	EXPECT(said(kangirlo_panel_write_ready_parts(greeted, output, 16, 3, 0x00010000, 0x1234), ready, KANGIRLO_TAKEN, 16));
+}
+
+static struct kangirlo_panel_said touch_parts(struct kangirlo_panel_marks marks, size_t room, const struct batch *batch)
+{
+	struct kangirlo_milliseconds time = {9};
+
+	return kangirlo_panel_write_touch_parts(marks, output, room, time, batch->bytes, batch->length, parts.states, parts.xs, parts.ys);
+}
+
+/* A finger down, alone and before a frame that is illegal. */
+static void test_parts_touch(void)
+{
+	static const uint8_t down[] = {3, 0, 17, 0, 0, 0, 9, 1, 1, 0, 1, 0, 0x40, 0x64, 0x40, 0x32, 0x19};
+	const struct kangirlo_panel_marks ready = {1, 1, 0, 0, {1, 0x00010000, 0x1234}}, begun = {1, 1, 0, 1, ready.settings};
+	struct batch batch = {0}, stray;
+
+	batch_head(&batch, 1, 0);
+	batch_contact(&batch, DOWN, 1, 100, 50);
+	stray = batch;
+	batch_head(&stray, 1, 0);
+	batch_contact(&stray, LIFT, 1, 101, 50);
+	lay_out();
+	EXPECT(said(touch_parts(odd, sizeof output, &batch), odd, KANGIRLO_SUSPENDED, 0));
+	EXPECT(said(touch_parts(ready, sizeof output, &stray), ready, KANGIRLO_ILLEGAL, 0));
+	EXPECT(said(touch_parts(ready, 16, &batch), ready, KANGIRLO_NO_ROOM, 0));
+	apart_put(&kept_parts, 1, 2, 100, 50);
+	memcpy(kept_output, down, sizeof down);
+	EXPECT(said(touch_parts(ready, 17, &batch), begun, KANGIRLO_TAKEN, 17));
+}
+
+static struct kangirlo_panel_said dismiss_parts(struct kangirlo_panel_marks marks, size_t room, uint8_t id)
+{
+	return kangirlo_panel_write_dismiss_parts(marks, output, room, id, parts.states, parts.xs, parts.ys);
+}
+
+static void test_parts_dismiss(void)
+{
+	static const uint8_t message[] = {6, 0, 7, 0, 0, 0, 7};
+
+	lay_out();
+	EXPECT(said(dismiss_parts(odd, sizeof output, 8), odd, KANGIRLO_ILLEGAL, 0));
+	EXPECT(said(dismiss_parts(odd, 6, 7), odd, KANGIRLO_NO_ROOM, 0));
+	apart_put(&kept_parts, 7, 0, 0, 0);
+	memcpy(kept_output, message, sizeof message);
+	EXPECT(said(dismiss_parts(odd, 7, 7), odd, KANGIRLO_TAKEN, 7));
 }
 
 int main(void)
@@ -268,5 +360,10 @@ int main(void)
 	test_touch();
 	test_first_offset();
 	test_dismiss();
+	test_marks();
+	test_parts_taken();
+	test_parts_ready();
+	test_parts_touch();
+	test_parts_dismiss();
 	return expect_end();
 }

@@ -6,7 +6,7 @@
 #include <string.h>
 #include <ucontext.h>
 
-enum { STACK = 1 << 16, PAINT = 0xA5 };
+enum { STACK = 1 << 16, BLOCK = 1 << 10, PAINT = 0xA5 };
 
 const uint8_t *painted_top;
 
@@ -26,23 +26,40 @@ static void run_on_stack(void (*make)(void))
 		exit(1);
 }
 
+/* Where the paint ends: whole blocks of it are passed over at once. */
+static const uint8_t *paint_end(void)
+{
+	static uint8_t block[BLOCK];
+	const uint8_t *at = stack;
+
+	memset(block, PAINT, sizeof block);
+	while (painted_top - at >= BLOCK && memcmp(at, block, BLOCK) == 0)
+		at += BLOCK;
+	while (at < painted_top && *at == PAINT)
+		at++;
+	return at;
+}
+
 void painted_measure(struct painted_call *call)
 {
-	const uint8_t *lowest = stack;
 	size_t taken;
 
 	memset(stack, PAINT, sizeof stack);
 	painted_top = stack;
 	run_on_stack(call->make);
-	while (lowest < painted_top && *lowest == PAINT)
-		lowest++;
-	taken = (size_t)(painted_top - lowest);
+	taken = (size_t)(painted_top - paint_end());
 	if (taken > call->most)
 		call->most = taken;
+}
+
+void painted_measure_all(struct painted_call *calls, size_t count)
+{
+	for (size_t i = 0; i < count; i++)
+		painted_measure(&calls[i]);
 }
 
 void painted_print(const struct painted_call *calls, size_t count)
 {
 	for (size_t i = 0; i < count; i++)
-		printf("%-28s %6zu bytes\n", calls[i].name, calls[i].most);
+		printf("%-50s %6zu bytes\n", calls[i].name, calls[i].most);
 }

@@ -14,10 +14,11 @@ struct painted_call {
 
 extern const uint8_t *painted_top;
 
-/* Stands right before the call. All arguments go in registers, so that the stack stands here where it stands at the call. */
+/* Stands right before the call. Arguments that go on the stack are laid below it, and so counted. */
 #define PAINTED_MARK() __asm__ volatile("mov %%rsp, %0" : "=r"(painted_top))
 
 void painted_measure(struct painted_call *call);
+void painted_measure_all(struct painted_call *calls, size_t count);
 
 /* A line for each call. */
 void painted_print(const struct painted_call *calls, size_t count);

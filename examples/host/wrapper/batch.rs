@@ -60,17 +60,21 @@ impl Receiver {
         answers: &'a mut [BatchAnswer],
         output: &'a mut [u8],
     ) -> Result<Batch<'a>, Refusal> {
-        let batch = unsafe {
-            c::kangirlo_receive_all(
-                self,
+        let c::BatchTurn { marks, batch } = unsafe {
+            c::kangirlo_receive_all_parts(
+                self.marks,
                 buffer.as_ptr(),
                 buffer.len(),
                 answers.as_mut_ptr(),
                 NUMBERS * answers.len(),
                 output.as_mut_ptr(),
                 output.len(),
+                &mut self.states,
+                &mut self.xs,
+                &mut self.ys,
             )
         };
+        self.marks = marks;
         accepted(batch.refusal)?;
         Ok(Batch {
             answers: &answers[..batch.entries],

@@ -67,14 +67,11 @@ pub struct Settings {
     pub most: u16,
 }
 
-/// One connection's receiver.
+/// One connection's receiver. Its marks go by value, and its contacts are lent where they stand.
 #[repr(C)]
 #[derive(Clone)]
 pub struct Receiver {
-    ready: u8,
-    begun: u8,
-    ignoring: u8,
-    settings: Settings,
+    marks: c::Marks,
     states: [u8; 256],
     xs: [i32; 256],
     ys: [i32; 256],
@@ -120,12 +117,12 @@ impl Receiver {
 
     /// What a client ready set, once one was accepted.
     pub fn settings(&self) -> Option<Settings> {
-        (self.ready != 0).then_some(self.settings)
+        (self.marks.ready != 0).then_some(self.marks.settings)
     }
 
     /// Whether frames are ignored until one opens.
     pub fn is_ignoring(&self) -> bool {
-        self.ignoring != 0
+        self.marks.ignoring != 0
     }
 
     /// A contact's state and stored position.
@@ -140,15 +137,19 @@ impl Receiver {
         message: &[u8],
         output: &'a mut [u8],
     ) -> Result<Taken<'a>, Refusal> {
-        let answer = unsafe {
-            c::kangirlo_receive(
-                self,
+        let c::Turn { marks, answer } = unsafe {
+            c::kangirlo_receive_parts(
+                self.marks,
                 message.as_ptr(),
                 message.len(),
                 output.as_mut_ptr(),
                 output.len(),
+                &mut self.states,
+                &mut self.xs,
+                &mut self.ys,
             )
         };
+        self.marks = marks;
         accepted(answer.refusal)?;
         Ok(Taken {
             injected: answer.injected,
@@ -301,9 +302,28 @@ pub fn write_dismiss(output: &mut [u8], id: u8) -> Result<usize, Refusal> {
     written(unsafe { c::kangirlo_write_dismiss(output.as_mut_ptr(), output.len(), id) })
 }
 
-/// The header, declared again.
+/// The header, declared again: all but the calls for a whole receiver or panel, beside which there are cheaper ones for its parts.
 mod c {
-    use super::{BatchAnswer, Microseconds, Milliseconds, Panel, Receiver, size_of};
+    use super::{BatchAnswer, Microseconds, Milliseconds, Panel, Receiver, Settings, size_of};
+
+    #[repr(C)]
+    #[derive(Clone, Copy)]
+    pub struct Marks {
+        pub ready: u8,
+        pub begun: u8,
+        pub ignoring: u8,
+        pub settings: Settings,
+    }
+
+    #[repr(C)]
+    #[derive(Clone, Copy)]
+    pub struct PanelMarks {
+        pub greeted: u8,
+        pub ready: u8,
+        pub suspended: u8,
+        pub begun: u8,
+        pub settings: Settings,
+    }
 
     #[repr(C)]
     pub struct Answer {
@@ -323,6 +343,18 @@ mod c {
     }
 
     #[repr(C)]
+    pub struct Turn {
+        pub marks: Marks,
+        pub answer: Answer,
+    }
+
+    #[repr(C)]
+    pub struct BatchTurn {
+        pub marks: Marks,
+        pub batch: Batch,
+    }
+
+    #[repr(C)]
     pub struct PlainAnswer {
         pub refusal: u8,
         pub time: Milliseconds,
@@ -333,6 +365,18 @@ mod c {
     pub struct Written {
         pub refusal: u8,
         pub bytes: usize,
+    }
+
+    #[repr(C)]
+    pub struct PanelHeard {
+        pub marks: PanelMarks,
+        pub refusal: u8,
+    }
+
+    #[repr(C)]
+    pub struct PanelSaid {
+        pub marks: PanelMarks,
+        pub written: Written,
     }
 
     #[repr(C)]
@@ -356,26 +400,35 @@ mod c {
 
     const _: () = assert!(size_of::<Answer>() == 16 && size_of::<PlainAnswer>() == 16);
     const _: () = assert!(size_of::<Batch>() == 24);
+    const _: () = assert!(size_of::<Marks>() == 16 && size_of::<PanelMarks>() == 16);
+    const _: () = assert!(size_of::<Turn>() == 32 && size_of::<BatchTurn>() == 40);
+    const _: () = assert!(size_of::<PanelHeard>() == 20 && size_of::<PanelSaid>() == 32);
     const _: () = assert!(size_of::<Written>() == 16 && size_of::<Record>() == 40);
 
     unsafe extern "C" {
         pub fn kangirlo_fresh() -> Receiver;
-        pub fn kangirlo_receive(
-            receiver: *mut Receiver,
+        pub fn kangirlo_receive_parts(
+            marks: Marks,
             message: *const u8,
             length: usize,
             output: *mut u8,
             room: usize,
-        ) -> Answer;
-        pub fn kangirlo_receive_all(
-            receiver: *mut Receiver,
+            states: *mut [u8; 256],
+            xs: *mut [i32; 256],
+            ys: *mut [i32; 256],
+        ) -> Turn;
+        pub fn kangirlo_receive_all_parts(
+            marks: Marks,
             buffer: *const u8,
             buffer_length: usize,
             answers: *mut BatchAnswer,
             numbers: usize,
             output: *mut u8,
             output_length: usize,
-        ) -> Batch;
+            states: *mut [u8; 256],
+            xs: *mut [i32; 256],
+            ys: *mut [i32; 256],
+        ) -> BatchTurn;
         pub fn kangirlo_plain(
             message: *const u8,
             length: usize,
@@ -402,28 +455,38 @@ mod c {
         pub fn kangirlo_write_dismiss(output: *mut u8, room: usize, id: u8) -> Written;
         pub fn kangirlo_read_record(records: *const u8, length: usize) -> Record;
         pub fn kangirlo_panel_fresh() -> Panel;
-        pub fn kangirlo_panel_take(panel: *mut Panel, message: *const u8, length: usize) -> u8;
-        pub fn kangirlo_panel_write_ready(
-            panel: *mut Panel,
+        pub fn kangirlo_panel_take_parts(
+            marks: PanelMarks,
+            message: *const u8,
+            length: usize,
+        ) -> PanelHeard;
+        pub fn kangirlo_panel_write_ready_parts(
+            marks: PanelMarks,
             output: *mut u8,
             room: usize,
             flags: u32,
             version: u32,
             most: u16,
-        ) -> Written;
-        pub fn kangirlo_panel_write_touch(
-            panel: *mut Panel,
+        ) -> PanelSaid;
+        pub fn kangirlo_panel_write_touch_parts(
+            marks: PanelMarks,
             output: *mut u8,
             room: usize,
             time: Milliseconds,
             records: *const u8,
             length: usize,
-        ) -> Written;
-        pub fn kangirlo_panel_write_dismiss(
-            panel: *mut Panel,
+            states: *mut [u8; 256],
+            xs: *mut [i32; 256],
+            ys: *mut [i32; 256],
+        ) -> PanelSaid;
+        pub fn kangirlo_panel_write_dismiss_parts(
+            marks: PanelMarks,
             output: *mut u8,
             room: usize,
             id: u8,
-        ) -> Written;
+            states: *mut [u8; 256],
+            xs: *mut [i32; 256],
+            ys: *mut [i32; 256],
+        ) -> PanelSaid;
     }
 }

@@ -3,15 +3,11 @@
 use super::{Milliseconds, Refusal, Settings, State, accepted, c, state_of, written};
 use std::mem::size_of;
 
-/// One connection's panel.
+/// One connection's panel. Its marks go by value, and its contacts are lent where they stand.
 #[repr(C)]
 #[derive(Clone)]
 pub struct Panel {
-    greeted: u8,
-    ready: u8,
-    suspended: u8,
-    begun: u8,
-    settings: Settings,
+    marks: c::PanelMarks,
     states: [u8; 256],
     xs: [i32; 256],
     ys: [i32; 256],
@@ -32,22 +28,22 @@ impl Panel {
 
     /// Whether a server ready was taken, so that client ready may be written.
     pub fn is_greeted(&self) -> bool {
-        self.greeted != 0
+        self.marks.greeted != 0
     }
 
     /// What its client ready said, once it was written.
     pub fn settings(&self) -> Option<Settings> {
-        (self.ready != 0).then_some(self.settings)
+        (self.marks.ready != 0).then_some(self.marks.settings)
     }
 
     /// Whether no touch is written until a resume is taken.
     pub fn is_suspended(&self) -> bool {
-        self.suspended != 0
+        self.marks.suspended != 0
     }
 
     /// Whether a frame was sent, so that the next may have an offset.
     pub fn has_begun(&self) -> bool {
-        self.begun != 0
+        self.marks.begun != 0
     }
 
     /// A contact's state and stored position.
@@ -58,20 +54,30 @@ impl Panel {
 
     /// Takes a message that arrived: server ready at first, then suspend and resume.
     pub fn take(&mut self, message: &[u8]) -> Result<(), Refusal> {
-        accepted(unsafe { c::kangirlo_panel_take(self, message.as_ptr(), message.len()) })
+        let heard =
+            unsafe { c::kangirlo_panel_take_parts(self.marks, message.as_ptr(), message.len()) };
+        self.marks = heard.marks;
+        accepted(heard.refusal)
+    }
+
+    /// Keeps what a writer made of the marks.
+    fn keep(&mut self, said: c::PanelSaid) -> Result<usize, Refusal> {
+        self.marks = said.marks;
+        written(said.written)
     }
 
     pub fn write_ready(&mut self, output: &mut [u8], set: Settings) -> Result<usize, Refusal> {
-        written(unsafe {
-            c::kangirlo_panel_write_ready(
-                self,
+        let said = unsafe {
+            c::kangirlo_panel_write_ready_parts(
+                self.marks,
                 output.as_mut_ptr(),
                 output.len(),
                 set.flags,
                 set.version,
                 set.most,
             )
-        })
+        };
+        self.keep(said)
     }
 
     /// Writes a touch message of the records (heads and contacts) of its frames.
@@ -81,21 +87,34 @@ impl Panel {
         time: Milliseconds,
         records: &[u8],
     ) -> Result<usize, Refusal> {
-        written(unsafe {
-            c::kangirlo_panel_write_touch(
-                self,
+        let said = unsafe {
+            c::kangirlo_panel_write_touch_parts(
+                self.marks,
                 output.as_mut_ptr(),
                 output.len(),
                 time,
                 records.as_ptr(),
                 records.len(),
+                &mut self.states,
+                &mut self.xs,
+                &mut self.ys,
             )
-        })
+        };
+        self.keep(said)
     }
 
     pub fn write_dismiss(&mut self, output: &mut [u8], id: u8) -> Result<usize, Refusal> {
-        written(unsafe {
-            c::kangirlo_panel_write_dismiss(self, output.as_mut_ptr(), output.len(), id)
-        })
+        let said = unsafe {
+            c::kangirlo_panel_write_dismiss_parts(
+                self.marks,
+                output.as_mut_ptr(),
+                output.len(),
+                id,
+                &mut self.states,
+                &mut self.xs,
+                &mut self.ys,
+            )
+        };
+        self.keep(said)
     }
 }

@@ -4,7 +4,7 @@ use Prim.Native.Nat.{ℕ}
 use mathlib.Core.Path.{_≡_}
 use mathlib.Core.List.{List}
 use Rattle.paper.specs.declared.Milliseconds.{Milliseconds}
-use Rattle.sending.specs.Panel.{freshPanel, Takes, Hears, readySending, touchSending, dismissSending}
+use Rattle.sending.specs.Panel.{freshPanel, Takes, TakesParts, readySending, touchSending, dismissSending}
 use Rattle.sending.specs.declared.Panel.{Panel}
 use Rattle.sending.specs.declared.PanelMarks.{PanelMarks}
 use Rattle.sending.specs.declared.Heard.{Heard}
@@ -17,7 +17,7 @@ pub record Calls : Type 0 where
   pub kangirlo-panel-write-ready : (p : Panel) (flags version most : ℕ) → One p (readySending p (record { flags = flags; version = version; most = most }))
   pub kangirlo-panel-write-touch : (p : Panel) (time : Milliseconds) (records : List ℕ) → One p (touchSending p time records)
   pub kangirlo-panel-write-dismiss : (p : Panel) (id : ℕ) → One p (dismissSending p id)
-  pub kangirlo-panel-take-parts : (m : PanelMarks) (message : List ℕ) (a b : Heard) → Hears m message a → Hears m message b → a ≡ b
+  pub kangirlo-panel-take-parts : (m : PanelMarks) (message : List ℕ) (a b : Heard) → TakesParts m message a → TakesParts m message b → a ≡ b
   pub kangirlo-panel-write-ready-parts : (m : PanelMarks) (flags version most : ℕ) → OneReady m (record { flags = flags; version = version; most = most })
   pub kangirlo-panel-write-touch-parts : (p : Panel) (time : Milliseconds) (records : List ℕ) → OneInParts p (touchSending p time records)
   pub kangirlo-panel-write-dismiss-parts : (p : Panel) (id : ℕ) → OneInParts p (dismissSending p id)

@@ -10,7 +10,7 @@ use slices::Written;
 ghost use mathlib.Core.Path.{_≡_};
 ghost use Rattle.machine.specs.Table.{Table};
 ghost use Rattle.contacts.specs.Ruling.{tableFrom};
-ghost use Rattle.sending.specs.Panel.{freshPanel, panelOfParts, readySending, touchSending, dismissSending, Takes, Hears, Sends, Says};
+ghost use Rattle.sending.specs.Panel.{freshPanel, panelOfParts, readySending, touchSending, dismissSending, Takes, TakesParts, Sends, SendsParts};
 
 // A panel that has taken and written nothing.
 #[no_mangle]
@@ -78,7 +78,7 @@ pub extern "C" fn kangirlo_panel_write_dismiss(
 // A message that arrived at a panel with these marks; its contacts are not needed.
 #[no_mangle]
 pub extern "C" fn kangirlo_panel_take_parts(marks: PanelMarks, message: &[u8]) -> Heard
-    ensures { λ r. ⌜ Hears marks (now (message .entry)) r ⌝ }
+    ensures { λ r. ⌜ TakesParts marks (now (message .entry)) r ⌝ }
 {
     sending::take_parts(marks, message)
 }
@@ -92,7 +92,7 @@ pub extern "C" fn kangirlo_panel_write_ready_parts(
     version: u32,
     most: u16,
 ) -> Said
-    ensures { λ r. ⌜ ((t : Table) → Says (panelOfParts marks t) (readySending (panelOfParts marks t) (record { flags = flags; version = version; most = most })) r t (now (output .entry)) (now (output .exit))) ⌝ }
+    ensures { λ r. ⌜ ((t : Table) → SendsParts (panelOfParts marks t) (readySending (panelOfParts marks t) (record { flags = flags; version = version; most = most })) r t (now (output .entry)) (now (output .exit))) ⌝ }
 {
     sending::write_ready_parts(marks, output, flags, version, most)
 }
@@ -108,7 +108,7 @@ pub extern "C" fn kangirlo_panel_write_touch_parts(
     xs: &mut [i32; 256],
     ys: &mut [i32; 256],
 ) -> Said
-    ensures { λ r. ⌜ Says (panelOfParts marks (tableFrom (now (states .entry)) (now (xs .entry)) (now (ys .entry)))) (touchSending (panelOfParts marks (tableFrom (now (states .entry)) (now (xs .entry)) (now (ys .entry)))) time (now (records .entry))) r (tableFrom (now (states .exit)) (now (xs .exit)) (now (ys .exit))) (now (output .entry)) (now (output .exit)) ⌝ }
+    ensures { λ r. ⌜ SendsParts (panelOfParts marks (tableFrom (now (states .entry)) (now (xs .entry)) (now (ys .entry)))) (touchSending (panelOfParts marks (tableFrom (now (states .entry)) (now (xs .entry)) (now (ys .entry)))) time (now (records .entry))) r (tableFrom (now (states .exit)) (now (xs .exit)) (now (ys .exit))) (now (output .entry)) (now (output .exit)) ⌝ }
 {
     sending::write_touch_parts(marks, output, time, records, states, xs, ys)
 }
@@ -123,7 +123,7 @@ pub extern "C" fn kangirlo_panel_write_dismiss_parts(
     xs: &mut [i32; 256],
     ys: &mut [i32; 256],
 ) -> Said
-    ensures { λ r. ⌜ Says (panelOfParts marks (tableFrom (now (states .entry)) (now (xs .entry)) (now (ys .entry)))) (dismissSending (panelOfParts marks (tableFrom (now (states .entry)) (now (xs .entry)) (now (ys .entry)))) id) r (tableFrom (now (states .exit)) (now (xs .exit)) (now (ys .exit))) (now (output .entry)) (now (output .exit)) ⌝ }
+    ensures { λ r. ⌜ SendsParts (panelOfParts marks (tableFrom (now (states .entry)) (now (xs .entry)) (now (ys .entry)))) (dismissSending (panelOfParts marks (tableFrom (now (states .entry)) (now (xs .entry)) (now (ys .entry)))) id) r (tableFrom (now (states .exit)) (now (xs .exit)) (now (ys .exit))) (now (output .entry)) (now (output .exit)) ⌝ }
 {
     sending::write_dismiss_parts(marks, output, id, states, xs, ys)
 }

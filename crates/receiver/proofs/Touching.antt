@@ -36,7 +36,7 @@ use Rattle.receiver.specs.declared.Answer.{Answer}
 use Rattle.receiver.specs.declared.Received.{Received}
 use Rattle.receiver.specs.Receive.{rulesOf, machineOf, untimed, judged, touched, refusal, answerOf, timeBy}
 use Rattle.channel.specs.Marks.{off, mark}
-use Rattle.receiver.specs.Events.{answerOfRun, Gives, touchEffect, roomy, Tallies, Carried, Carries, Settles}
+use Rattle.receiver.specs.Events.{answerOfRun, Gives, touchEffect, ample, Tallies, Carried, Carries, Settles}
 use Rattle.receiver.proofs.Weight.{touch-small}
 use Rattle.receiver.proofs.Answering.{gives-refused, gives-none, gives-done, gives-same}
 
@@ -156,8 +156,8 @@ module _ (r : Receiver) (b : List ℕ) (j : Bool) (ej : j ≡ judged r) (before 
     pub touch-settled : Settles r h (take (length b - at) (drop at b)) before q after → Gives r (touchEffect r b) before q after
     touch-settled s = gives-same r _ _ before q after effect-is (s (it .message) [] (it .head) frames-are)
 
-    pub touch-roomy : roomy (length b) (length before) ≡ true → Carries r h (take (length b - at) (drop at b)) before q after → Gives r (touchEffect r b) before q after
-    touch-roomy room y =
+    pub touch-ample : ample (length b) (length before) ≡ true → Carries r h (take (length b - at) (drop at b)) before q after → Gives r (touchEffect r b) before q after
+    touch-ample room y =
         let n : length b / 2 + contacts ≤ length before / 21 = leb-true _ _ room in
         let w : length (touched r (it .message) .bytes) ≤ length before = omega (arith, n, touch-small r (y .whole) b (it .message) [] read) in
         let d = y .carried (it .message) [] (it .head) frames-are w in

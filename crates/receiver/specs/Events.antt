@@ -71,8 +71,8 @@ pub record Tallies (r : Receiver) (n : ℕ) (l : List ℕ) (records : ℕ) (befo
   pub kept : (fs : List (Frame Contact)) (rest : List ℕ) → readSeries (λ b. frame taken b .read) false n l ≡ got fs rest → after ≡ before
 
 -- an output of so many bytes has room for whatever a body of so many gives: a record for every two of them, and a cancel for each contact
-abbrev pub roomy : ℕ → ℕ → Bool
-roomy bodyBytes room = leb (bodyBytes / 2 + contacts) (room / recordBytes)
+abbrev pub ample : ℕ → ℕ → Bool
+ample bodyBytes room = leb (bodyBytes / 2 + contacts) (room / recordBytes)
 
 -- an effect, carried out
 pub record Carried (e : Effect) (before : List ℕ) (q : Received) (after : List ℕ) : Type 0 where

@@ -11,7 +11,7 @@ ghost use mathlib.Core.Path.{_≡_};
 ghost use mathlib.Core.Bool.{cond, not};
 ghost use Rattle.contacts.specs.Ruling.{tableFrom};
 ghost use Rattle.channel.specs.Marks.{off, mark};
-ghost use Rattle.receiver.specs.Events.{ofParts, turned, answerOfRun, Gives, touchEffect, roomy, Tallies, Carries, Settles};
+ghost use Rattle.receiver.specs.Events.{ofParts, turned, answerOfRun, Gives, touchEffect, ample, Tallies, Carries, Settles};
 
 // How many contacts there are: an id is a byte.
 const CONTACTS: usize = 256;
@@ -52,8 +52,8 @@ fn answer_to(run: Run, time: Milliseconds) -> Answer
 
 // Whether an output of so many bytes has room for whatever a body of so many gives: two bytes of it give at most one record, beside a cancel
 // for each contact.
-fn is_roomy(bytes: usize, room: usize) -> bool
-    ensures { λ r. ⌜ r ≡ roomy bytes room ⌝ }
+fn is_ample(bytes: usize, room: usize) -> bool
+    ensures { λ r. ⌜ r ≡ ample bytes room ⌝ }
 {
     bytes / 2 + CONTACTS <= room / house::RECORD_BYTES
 }
@@ -175,7 +175,7 @@ pub(crate) fn receive_touch(
         return refuse(marks, checked.refusal());
     };
     let frames = &body[at..];
-    if is_roomy(body.len(), output.len()) {
+    if is_ample(body.len(), output.len()) {
         return carry_out(marks, head, frames, output, states, xs, ys);
     }
     if marks.ignoring == 0 {

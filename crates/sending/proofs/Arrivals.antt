@@ -21,7 +21,7 @@ use Rattle.messages.specs.declared.ReadVersion.the-variants as read
 use Rattle.messages.proofs.Laws.{headed-got, one-of-one, one-of-later}
 use Rattle.channel.specs.Marks.{off}
 use Rattle.machine.specs.Table.{Table}
-use Rattle.sending.specs.Panel.{panelMarks, panelOfParts, greetedBy, suspendedBy, bodyArrival, arrival, panelOf, Takes, Hears}
+use Rattle.sending.specs.Panel.{panelMarks, panelOfParts, greetedBy, suspendedBy, bodyArrival, arrival, panelOf, Takes, TakesParts}
 use Rattle.sending.specs.declared.Panel.{Panel}
 use Rattle.sending.specs.declared.PanelMarks.{PanelMarks}
 use Rattle.sending.specs.declared.Heard.{Heard}
@@ -35,8 +35,8 @@ takes-bad : (p : Panel) (l : List ℕ) (n : ℕ) → arrival p l ≡ bad n → T
 takes-bad p l n e = record { kept = sym (ap (panelOf p) e); answered = sym (ap refusalOf e) }
 
 -- a refusal leaves the marks
-hears-refused : (m : PanelMarks) (l : List ℕ) (n : ℕ) (a : Heard) → a ≡ record { marks = m; refusal = n } → ((t : Table) → arrival (panelOfParts m t) l ≡ bad n) → Hears m l a
-hears-refused m l n a e h t = rw e (takes-bad (panelOfParts m t) l n (h t))
+takes-refused : (m : PanelMarks) (l : List ℕ) (n : ℕ) (a : Heard) → a ≡ record { marks = m; refusal = n } → ((t : Table) → arrival (panelOfParts m t) l ≡ bad n) → TakesParts m l a
+takes-refused m l n a e h t = rw e (takes-bad (panelOfParts m t) l n (h t))
 
 -- ---- before server ready was taken
 
@@ -52,10 +52,10 @@ module _ (p : Panel) (l : List ℕ) (o : off (p .greeted) ≡ true) where
           rw z
 
 module _ (m : PanelMarks) (l : List ℕ) (o : off (m .greeted) ≡ true) (x : ReadVersion) (h : versionGot x ≡ readMessage serverReady version l) where
-  pub greet-refused : (n : ℕ) → x ≡ read.Refused n → (a : Heard) → a ≡ record { marks = m; refusal = n } → Hears m l a
+  pub greet-refused : (n : ℕ) → x ≡ read.Refused n → (a : Heard) → a ≡ record { marks = m; refusal = n } → TakesParts m l a
   greet-refused n w a e =
       let z : readMessage serverReady version l ≡ bad n = sym h ∙ ap versionGot w in
-      hears-refused m l n a e (λ t. greeting (panelOfParts m t) l o ∙ rw z)
+      takes-refused m l n a e (λ t. greeting (panelOfParts m t) l o ∙ rw z)
 
   pub greet-taken : (v : ℕ) → x ≡ read.Version v → (t : Table) (k : PanelMarks) → k ≡ panelMarks (greetedBy (panelOfParts m t)) → Takes (panelOfParts m t) l (panelOfParts k t) 0
   greet-taken v w t k e =
@@ -104,17 +104,17 @@ pub header-long : (l : List ℕ) (x : Header) → headerGot x l ≡ headed (susp
 header-long l x h e w = headed-got (suspend ∷ resume ∷ []) l e (drop headerBytes l) (sym h ∙ ap (λ (k : Header). headerGot k l) w) .low
 
 module _ (m : PanelMarks) (l : List ℕ) (o : off (m .greeted) ≡ false) (x : Header) (h : headerGot x l ≡ headed (suspend ∷ resume ∷ []) l) where
-  pub hold-refused : (n : ℕ) → x ≡ head.Refused n → (a : Heard) → a ≡ record { marks = m; refusal = n } → Hears m l a
+  pub hold-refused : (n : ℕ) → x ≡ head.Refused n → (a : Heard) → a ≡ record { marks = m; refusal = n } → TakesParts m l a
   hold-refused n w a e =
       let z : headed (suspend ∷ resume ∷ []) l ≡ bad n = sym h ∙ ap (λ (k : Header). headerGot k l) w in
-      hears-refused m l n a e (λ t. holding (panelOfParts m t) l o ∙ rw z)
+      takes-refused m l n a e (λ t. holding (panelOfParts m t) l o ∙ rw z)
 
   module _ (e : ℕ) (w : x ≡ head.Event e) (n : ℕ) (k : n ≡ refusalOf (whole nothing trailing (drop headerBytes l))) where
     event : headed (suspend ∷ resume ∷ []) l ≡ got e (drop headerBytes l)
     event = sym h ∙ ap (λ (k : Header). headerGot k l) w
 
-    pub body-refused : (n ≡ 0 → ⊥) → (a : Heard) → a ≡ record { marks = m; refusal = n } → Hears m l a
-    body-refused f a q = hears-refused m l n a q (λ t. holding (panelOfParts m t) l o ∙ rw (event, nothing-bad (drop headerBytes l) n k f))
+    pub body-refused : (n ≡ 0 → ⊥) → (a : Heard) → a ≡ record { marks = m; refusal = n } → TakesParts m l a
+    body-refused f a q = takes-refused m l n a q (λ t. holding (panelOfParts m t) l o ∙ rw (event, nothing-bad (drop headerBytes l) n k f))
 
     pub body-taken : n ≡ 0 → (t : Table) (j : PanelMarks) → j ≡ panelMarks (suspendedBy (panelOfParts m t) (eqb e suspend)) → Takes (panelOfParts m t) l (panelOfParts j t) 0
     body-taken z t j q =

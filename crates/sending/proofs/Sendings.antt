@@ -17,7 +17,7 @@ use Rattle.states.specs.Table.{out, hovering}
 use Rattle.channel.specs.Marks.{off}
 use Rattle.machine.specs.Table.{Table, stateAt, withContact, origin}
 use Rattle.machine.proofs.Machine.{dismiss-table}
-use Rattle.sending.specs.Panel.{panelTable, panelOfParts, panelWith, Sending, panelAfter, Sends, Says, mayDeclare, readySending, dismissSending}
+use Rattle.sending.specs.Panel.{panelTable, panelOfParts, panelWith, Sending, panelAfter, Sends, SendsParts, mayDeclare, readySending, dismissSending}
 use Rattle.sending.specs.declared.Panel.{Panel}
 use Rattle.sending.specs.declared.PanelMarks.{PanelMarks}
 use Rattle.sending.specs.declared.Said.{Said}
@@ -36,7 +36,7 @@ module _ (m : PanelMarks) (t : Table) (s : Sending) (before : List ℕ) (d : Dra
   after-is : (x : Draft) → given (length before) d ≡ x → panelAfter lent (s .panel) (given (length before) (s .draft)) ≡ panelAfter lent (s .panel) x
   after-is x e = ap (λ (y : Draft). panelAfter lent (s .panel) (given (length before) y)) same ∙ ap (panelAfter lent (s .panel)) e
 
-  pub sends-refused : (n : ℕ) (x : Said) → d ≡ refuse n → x ≡ refusedAs m n → Says lent s x t before before
+  pub sends-refused : (n : ℕ) (x : Said) → d ≡ refuse n → x ≡ refusedAs m n → SendsParts lent s x t before before
   sends-refused n x e h =
       rw h
       (record {
@@ -45,10 +45,10 @@ module _ (m : PanelMarks) (t : Table) (s : Sending) (before : List ℕ) (d : Dra
       })
 
   module _ (w : Written) (after : List ℕ) (writes : Writes d w before after) where
-    pub sends-failed : (w .refusal ≡ none → ⊥) → (x : Said) → x ≡ refusedAs m (w .refusal) → Says lent s x t before after
+    pub sends-failed : (w .refusal ≡ none → ⊥) → (x : Said) → x ≡ refusedAs m (w .refusal) → SendsParts lent s x t before after
     sends-failed u x h = go (given (length before) d) refl
       where
-        go : (y : Draft) → given (length before) d ≡ y → Says lent s x t before after
+        go : (y : Draft) → given (length before) d ≡ y → SendsParts lent s x t before after
         go (bytes b) e = absurd (u (ap (λ (v : Written). v .refusal) (writes .answer ∙ ap answered e)))
         go (refuse n) e =
             let a : w ≡ record { refusal = n; bytes = 0 } = writes .answer ∙ ap answered e in

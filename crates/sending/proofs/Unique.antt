@@ -9,7 +9,7 @@ use Rattle.slices.specs.declared.Written.{Written}
 use Rattle.slices.proofs.Laws.{writes-unique}
 use Rattle.messages.specs.declared.Ready.{Ready}
 use Rattle.machine.specs.Table.{Table, resting}
-use Rattle.sending.specs.Panel.{panelTable, panelMarks, panelOfParts, freshPanel, Takes, Hears, Sending, readySending, touchSending, dismissSending, Sends, Says}
+use Rattle.sending.specs.Panel.{panelTable, panelMarks, panelOfParts, freshPanel, Takes, TakesParts, Sending, readySending, touchSending, dismissSending, Sends, SendsParts}
 use Rattle.sending.specs.declared.Panel.{Panel}
 use Rattle.sending.specs.declared.PanelMarks.{PanelMarks}
 use Rattle.sending.specs.declared.Heard.{Heard}
@@ -31,10 +31,10 @@ sends-unique p s q r v w before after after′ x y =
 
 -- .. of a panel that is lent in parts
 abbrev pub OneInParts : Panel → Sending → Type 0
-OneInParts p s = (a b : Said) (t u : Table) (before after after′ : List ℕ) → Says p s a t before after → Says p s b u before after′ → (a ≡ b) × (t ≡ u) × (after ≡ after′)
+OneInParts p s = (a b : Said) (t u : Table) (before after after′ : List ℕ) → SendsParts p s a t before after → SendsParts p s b u before after′ → (a ≡ b) × (t ≡ u) × (after ≡ after′)
 
-says-unique : (p : Panel) (s : Sending) → OneInParts p s
-says-unique p s a b t u before after after′ x y =
+sends-parts-unique : (p : Panel) (s : Sending) → OneInParts p s
+sends-parts-unique p s a b t u before after after′ x y =
     let e = sends-unique p s _ _ _ _ before after after′ x y in (
       λ i. record {
         marks = panelMarks (e .panel i);
@@ -47,17 +47,17 @@ says-unique p s a b t u before after after′ x y =
 -- .. and of one whose contacts are not lent at all
 abbrev pub OneReady : PanelMarks → Ready → Type 0
 OneReady m settings =
-    (a b : Said) (before after after′ : List ℕ) → ((t : Table) → Says (panelOfParts m t) (readySending (panelOfParts m t) settings) a t before after)
-    → ((t : Table) → Says (panelOfParts m t) (readySending (panelOfParts m t) settings) b t before after′) → (a ≡ b) × (after ≡ after′)
+    (a b : Said) (before after after′ : List ℕ) → ((t : Table) → SendsParts (panelOfParts m t) (readySending (panelOfParts m t) settings) a t before after)
+    → ((t : Table) → SendsParts (panelOfParts m t) (readySending (panelOfParts m t) settings) b t before after′) → (a ≡ b) × (after ≡ after′)
 
 ready-unique : (m : PanelMarks) (settings : Ready) → OneReady m settings
 ready-unique m settings a b before after after′ x y =
-    let e = says-unique _ _ a b resting resting before after after′ (x resting) (y resting) in (e .0, e .2)
+    let e = sends-parts-unique _ _ a b resting resting before after after′ (x resting) (y resting) in (e .0, e .2)
 
 take-unique : (p : Panel) (message : List ℕ) (q r : Panel) (m n : ℕ) → Takes p message q m → Takes p message r n → (q ≡ r) × (m ≡ n)
 take-unique p message q r m n x y = (x .kept ∙ sym (y .kept), x .answered ∙ sym (y .answered))
 
-take-parts-unique : (m : PanelMarks) (message : List ℕ) (a b : Heard) → Hears m message a → Hears m message b → a ≡ b
+take-parts-unique : (m : PanelMarks) (message : List ℕ) (a b : Heard) → TakesParts m message a → TakesParts m message b → a ≡ b
 take-parts-unique m message a b x y =
     let e = take-unique _ message _ _ _ _ (x resting) (y resting) in λ i. record { marks = panelMarks (e .0 i); refusal = e .1 i }
 
@@ -67,7 +67,7 @@ pub record Calls : Type 0 where
   pub write-ready : (p : Panel) (settings : Ready) → One p (readySending p settings)
   pub write-touch : (p : Panel) (time : Milliseconds) (records : List ℕ) → One p (touchSending p time records)
   pub write-dismiss : (p : Panel) (id : ℕ) → One p (dismissSending p id)
-  pub take-parts : (m : PanelMarks) (message : List ℕ) (a b : Heard) → Hears m message a → Hears m message b → a ≡ b
+  pub take-parts : (m : PanelMarks) (message : List ℕ) (a b : Heard) → TakesParts m message a → TakesParts m message b → a ≡ b
   pub write-ready-parts : (m : PanelMarks) (settings : Ready) → OneReady m settings
   pub write-touch-parts : (p : Panel) (time : Milliseconds) (records : List ℕ) → OneInParts p (touchSending p time records)
   pub write-dismiss-parts : (p : Panel) (id : ℕ) → OneInParts p (dismissSending p id)
@@ -82,6 +82,6 @@ calls-unique =
       write-dismiss = λ p id. sends-unique p (dismissSending p id);
       take-parts = take-parts-unique;
       write-ready-parts = ready-unique;
-      write-touch-parts = λ p time records. says-unique p (touchSending p time records);
-      write-dismiss-parts = λ p id. says-unique p (dismissSending p id);
+      write-touch-parts = λ p time records. sends-parts-unique p (touchSending p time records);
+      write-dismiss-parts = λ p id. sends-parts-unique p (dismissSending p id);
     }

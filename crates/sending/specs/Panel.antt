@@ -99,8 +99,8 @@ pub record Takes (p : Panel) (message : List ℕ) (panel : Panel) (refusal : ℕ
   pub answered : refusal ≡ refusalOf (arrival p message)
 
 -- .. of a panel with these marks, whatever its contacts are: they stay
-abbrev pub Hears : PanelMarks → List ℕ → Heard → Type 0
-Hears m message h = (t : Table) → Takes (panelOfParts m t) message (panelOfParts (h .marks) t) (h .refusal)
+abbrev pub TakesParts : PanelMarks → List ℕ → Heard → Type 0
+TakesParts m message h = (t : Table) → Takes (panelOfParts m t) message (panelOfParts (h .marks) t) (h .refusal)
 
 -- ---- what is sent: what a call would write, given room, and the panel that it leaves then
 
@@ -176,5 +176,5 @@ pub record Sends (p : Panel) (s : Sending) (panel : Panel) (w : Written) (before
   pub kept : panel ≡ panelAfter p (s .panel) (given (length before) (s .draft))
 
 -- .. of a panel in parts
-abbrev pub Says : Panel → Sending → Said → Table → List ℕ → List ℕ → Type 0
-Says p s said t before after = Sends p s (panelOfParts (said .marks) t) (said .written) before after
+abbrev pub SendsParts : Panel → Sending → Said → Table → List ℕ → List ℕ → Type 0
+SendsParts p s said t before after = Sends p s (panelOfParts (said .marks) t) (said .written) before after

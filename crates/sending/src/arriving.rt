@@ -8,7 +8,7 @@ ghost use mathlib.Core.Bool.{true, false};
 ghost use lib.Dec.{eqb};
 ghost use Rattle.messages.specs.Header.{suspend};
 ghost use Rattle.channel.specs.Marks.{off, mark};
-ghost use Rattle.sending.specs.Panel.{Hears};
+ghost use Rattle.sending.specs.Panel.{TakesParts};
 
 // A message that is refused, with its number, changes no mark.
 fn refuse(marks: PanelMarks, refusal: u8) -> Heard
@@ -36,7 +36,7 @@ fn mark_as(marks: PanelMarks, greeted: u8, suspended: u8) -> PanelMarks
 
 // Server ready, all that a panel takes at first.
 fn greet(marks: PanelMarks, message: &[u8]) -> Heard
-    ensures { λ r. ⌜ (off (marks .greeted) ≡ true → Hears marks (now (message .entry)) r) ⌝ }
+    ensures { λ r. ⌜ (off (marks .greeted) ≡ true → TakesParts marks (now (message .entry)) r) ⌝ }
 {
     match messages::read_server_ready(message) {
         ReadVersion::Refused(e) => refuse(marks, e),
@@ -59,7 +59,7 @@ fn suspended_after(event: u16) -> u8
 
 // Suspend or resume, all that a panel takes afterwards.
 fn hold(marks: PanelMarks, message: &[u8]) -> Heard
-    ensures { λ r. ⌜ (off (marks .greeted) ≡ false → Hears marks (now (message .entry)) r) ⌝ }
+    ensures { λ r. ⌜ (off (marks .greeted) ≡ false → TakesParts marks (now (message .entry)) r) ⌝ }
 {
     match messages::read_header(message, messages::SUSPEND, messages::RESUME) {
         Header::Refused(e) => refuse(marks, e),
@@ -78,7 +78,7 @@ fn hold(marks: PanelMarks, message: &[u8]) -> Heard
 
 // A message that arrived at a panel with these marks: taken, or refused with nothing changed.
 pub fn take_parts(marks: PanelMarks, message: &[u8]) -> Heard
-    ensures { λ r. ⌜ Hears marks (now (message .entry)) r ⌝ }
+    ensures { λ r. ⌜ TakesParts marks (now (message .entry)) r ⌝ }
 {
     if marks.greeted == 0 {
         return greet(marks, message);

@@ -23,7 +23,7 @@ ghost use Rattle.writing.specs.TouchDraft.{checkedFrames};
 ghost use Rattle.contacts.specs.Ruling.{tableFrom};
 ghost use Rattle.sending.specs.declared.Panel.{Panel};
 ghost use Rattle.machine.specs.Table.{Table};
-ghost use Rattle.sending.specs.Panel.{panelOfParts, readySending, touchSending, dismissSending, offsetStands, Says};
+ghost use Rattle.sending.specs.Panel.{panelOfParts, readySending, touchSending, dismissSending, offsetStands, SendsParts};
 ghost use Rattle.sending.specs.Judging.{permitted, AreFrames, Faults};
 
 // A refusal, which leaves the marks as they were.
@@ -57,7 +57,7 @@ pub fn write_ready_parts(
     version: u32,
     most: u16,
 ) -> Said
-    ensures { λ r. ⌜ ((t : Table) → Says (panelOfParts marks t) (readySending (panelOfParts marks t) (record { flags = flags; version = version; most = most })) r t (now (out .entry)) (now (out .exit))) ⌝ }
+    ensures { λ r. ⌜ ((t : Table) → SendsParts (panelOfParts marks t) (readySending (panelOfParts marks t) (record { flags = flags; version = version; most = most })) r t (now (out .entry)) (now (out .exit))) ⌝ }
 {
     if !may_declare(marks.greeted, marks.ready) {
         return refuse(marks, paper::NOT_READY);
@@ -142,7 +142,7 @@ pub fn write_touch_parts(
     xs: &mut [i32; 256],
     ys: &mut [i32; 256],
 ) -> Said
-    ensures { λ r. ⌜ Says (panelOfParts marks (tableFrom (now (states .entry)) (now (xs .entry)) (now (ys .entry)))) (touchSending (panelOfParts marks (tableFrom (now (states .entry)) (now (xs .entry)) (now (ys .entry)))) time (now (records .entry))) r (tableFrom (now (states .exit)) (now (xs .exit)) (now (ys .exit))) (now (out .entry)) (now (out .exit)) ⌝ }
+    ensures { λ r. ⌜ SendsParts (panelOfParts marks (tableFrom (now (states .entry)) (now (xs .entry)) (now (ys .entry)))) (touchSending (panelOfParts marks (tableFrom (now (states .entry)) (now (xs .entry)) (now (ys .entry)))) time (now (records .entry))) r (tableFrom (now (states .exit)) (now (xs .exit)) (now (ys .exit))) (now (out .entry)) (now (out .exit)) ⌝ }
 {
     let checked = check(marks.ready, marks.suspended, time, records);
     let Counted::Frames(frames) = checked else {
@@ -184,7 +184,7 @@ pub fn write_dismiss_parts(
     xs: &mut [i32; 256],
     ys: &mut [i32; 256],
 ) -> Said
-    ensures { λ r. ⌜ Says (panelOfParts marks (tableFrom (now (states .entry)) (now (xs .entry)) (now (ys .entry)))) (dismissSending (panelOfParts marks (tableFrom (now (states .entry)) (now (xs .entry)) (now (ys .entry)))) id) r (tableFrom (now (states .exit)) (now (xs .exit)) (now (ys .exit))) (now (out .entry)) (now (out .exit)) ⌝ }
+    ensures { λ r. ⌜ SendsParts (panelOfParts marks (tableFrom (now (states .entry)) (now (xs .entry)) (now (ys .entry)))) (dismissSending (panelOfParts marks (tableFrom (now (states .entry)) (now (xs .entry)) (now (ys .entry)))) id) r (tableFrom (now (states .exit)) (now (xs .exit)) (now (ys .exit))) (now (out .entry)) (now (out .exit)) ⌝ }
 {
     if marks.ready == 0 {
         return refuse(marks, paper::NOT_READY);

@@ -21,7 +21,7 @@ use Rattle.framing.specs.Frame.{Frame}
 use Rattle.recordings.specs.Answer.{counted}
 use Rattle.writing.specs.TouchDraft.{messageOf, framesDraft, checkedFrames, draftOf, touchDraft}
 use Rattle.writing.specs.Spelling.{Spelt, bodyOf}
-use Rattle.writing.specs.Limits.{mostRecords}
+use Rattle.writing.specs.Limits.{mostSpelt}
 use Rattle.writing.proofs.Checked.{Checked, checked-got}
 use Rattle.writing.proofs.Spelt.{Spelling, spelling-of}
 
@@ -74,7 +74,7 @@ module _ (time : Milliseconds) (l : List ℕ) where
     pub all-spelt : Spelt (length l / 21) l
     all-spelt = spelling .each
 
-    pub few-records : length l / 21 ≤ mostRecords
+    pub few-records : length l / 21 ≤ mostSpelt
     few-records = omega (arith, spelling .few, fewer)
 
     spelled-is : messageOf time (f .frames) ≡ spelled time n (length l / 21) l

@@ -2,5 +2,5 @@
 use Prim.Native.Nat.{ℕ, _+_, _*_}
 use Rattle.touch.specs.Limits.{mostFrames, mostContacts}
 
-abbrev pub mostRecords : ℕ
-mostRecords = mostFrames * (1 + mostContacts)
+abbrev pub mostSpelt : ℕ
+mostSpelt = mostFrames * (1 + mostContacts)

@@ -9,7 +9,7 @@ ghost use Rattle.house.specs.Layout.{recordOf};
 ghost use Rattle.messages.specs.Header.{headerBytes};
 ghost use Rattle.touch.specs.Touch.{point, sides, optional, optionalOf, contact, frameHead, touchHead};
 ghost use Rattle.writing.specs.Spelling.{spelling, spelt, Spelt, bodyOf};
-ghost use Rattle.writing.specs.Limits.{mostRecords};
+ghost use Rattle.writing.specs.Limits.{mostSpelt};
 use crate::contact::ORIENTATION;
 use crate::contact::PRESSURE;
 use crate::contact::SIDES;
@@ -89,7 +89,7 @@ fn record_bytes(records: &[u8]) -> usize
 
 // So many records, which are no more than a message can be of: the total cannot overflow.
 fn records_bytes(records: &[u8], count: usize) -> usize
-    requires { ⌜ Spelt count (now records) × (count ≤ mostRecords) ⌝ }
+    requires { ⌜ Spelt count (now records) × (count ≤ mostSpelt) ⌝ }
     ensures { λ r. ⌜ r ≡ length (spelt count (now (records .entry))) ⌝ }
 {
     let mut total: usize = 0;
@@ -112,7 +112,7 @@ fn touch_head_bytes(time: Milliseconds, frames: u8) -> usize
 
 // The whole message.
 pub(crate) fn message_bytes(time: Milliseconds, frames: u8, records: &[u8], count: usize) -> usize
-    requires { ⌜ Spelt count (now records) × (count ≤ mostRecords) ⌝ }
+    requires { ⌜ Spelt count (now records) × (count ≤ mostSpelt) ⌝ }
     ensures { λ r. ⌜ r ≡ headerBytes + length (bodyOf time frames count (now (records .entry))) ⌝ }
 {
     let body = touch_head_bytes(time, frames) + records_bytes(records, count);

@@ -7,7 +7,7 @@ use native.Mathlib.Omega.{arith}
 use Rattle.touch.specs.Answer.{Checks}
 use Rattle.touch.specs.declared.CheckedBody.the-variants as CheckedBody
 use Rattle.receiver.proofs.Answering.{turned-same}
-use Rattle.receiver.proofs.Touching.{touch-refused, touch-settled, touch-roomy}
+use Rattle.receiver.proofs.Touching.{touch-refused, touch-settled, touch-ample}
 use Rattle.receiver.proofs.frames.receive_touch.Statement.{statement}
 use Rattle.receiver.proofs.frames.receive_touch.Tie as tie
 
@@ -53,8 +53,8 @@ part-frames-start c = omega (arith, body-is c .begins .inside)
 part-frames-end : tie.Need-part-frames-end
 part-frames-end c = search needs
 
-is-roomy-requires : tie.Need-is-roomy-requires
-is-roomy-requires c κs = search needs
+is-ample-requires : tie.Need-is-ample-requires
+is-ample-requires c κs = search needs
 
 carry-out-requires : tie.Need-carry-out-requires
 carry-out-requires c κs = search needs
@@ -67,7 +67,7 @@ returns-2 c =
     let o = c .before .before in
     let i = o .before .before .before .before .before in
     let k = i .before .before .before in
-    touch-roomy _ _ _ (judging k .is-judged .ensures) _ _ _ _ (body-is k) _ (sym (i .before .is-roomy .ensures) ∙ i .if1 .taken) (o .carry-out .ensures)
+    touch-ample _ _ _ (judging k .is-judged .ensures) _ _ _ _ (body-is k) _ (sym (i .before .is-ample .ensures) ∙ i .if1 .taken) (o .carry-out .ensures)
 
 -- the output that might be too short
 abbrev tight : tie.After-struct-known → tie.After-known-told
@@ -111,7 +111,7 @@ receive-touch-spec =
     sub-frames
     part-frames-start
     part-frames-end
-    is-roomy-requires
+    is-ample-requires
     carry-out-requires
     same-length
     returns-2

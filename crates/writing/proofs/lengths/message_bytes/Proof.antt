@@ -6,14 +6,14 @@ use lib.ListN.{length-append}
 use Rattle.fields.specs.Integers.{taken}
 use Rattle.touch.specs.Touch.{touchHead}
 use Rattle.writing.specs.Spelling.{spelt}
-use Rattle.writing.specs.Limits.{mostRecords}
+use Rattle.writing.specs.Limits.{mostSpelt}
 use Rattle.writing.proofs.Measured.{spelt-most, touch-head-sized}
 use borrow.Author.Needs.{needs}
 use Rattle.writing.proofs.lengths.message_bytes.Statement.{statement}
 use Rattle.writing.proofs.lengths.message_bytes.Tie as tie
 
 -- the head's bytes and the records' are few
-small : (c : tie.After-records-bytes) → c .before .touch-head-bytes .result + c .records-bytes .result ≤ 16 + 81 * mostRecords
+small : (c : tie.After-records-bytes) → c .before .touch-head-bytes .result + c .records-bytes .result ≤ 16 + 81 * mostSpelt
 small c =
     let h = c .before in
     let s = h .before .before in

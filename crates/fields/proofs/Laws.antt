@@ -1,8 +1,9 @@
--- The five integers as lawful formats, whatever the reading, and the strict one.
+-- The five integers as lawful formats, whatever the reading, and those of a form.
 -- Assumes nothing.
 use Prim.Native.Nat.{ℕ, zero, suc, _+_, _≤_, _<_}
 use mathlib.Core.Logic.{_↔_}
 use mathlib.Core.Path.{_≡_, refl, sym, _∙_}
+use mathlib.Core.Bool.{Bool, true, false}
 use mathlib.Core.List.{List, _++_}
 use native.Mathlib.Omega.{arith}
 use lib.Dec.{lit<, lit≤}
@@ -13,11 +14,11 @@ use Rattle.digits.specs.Digits.{Bytes}
 use Rattle.digits.proofs.Laws.{bytes-drop}
 use Rattle.formats.specs.Format.{got, Format}
 use Rattle.formats.proofs.Laws.{Law, Back, Sound, Short, Exact, never}
-use Rattle.integers.specs.Integer.{Reading, value, refused, reading, writing, limit, tops, signs}
+use Rattle.integers.specs.Integer.{Reading, value, refused, readingBy, writing, limit, signs}
 use Rattle.integers.specs.Answer.{minus, signedValue}
-use Rattle.integers.proofs.Laws.{Fault, only-form-refused, length-and-value, reading-decoded, reading-inside, writing-shorter}
+use Rattle.integers.proofs.Laws.{length-and-value, reading-inside, writing-shorter}
 use Rattle.integers.proofs.Signed.{minus-small, signed-again}
-use Rattle.fields.specs.Integers.{Shape, unsigned, signed, gotBy, integer, Integers, integersBy, strict, takenReading, taken}
+use Rattle.fields.specs.Integers.{Shape, unsigned, signed, gotBy, integer, Integers, integersBy, takenBy, taken}
 
 -- what a reading of integers promises, at whatever lengths: what is written is read back, the value is in range, and it is written in no more
 -- bytes
@@ -160,29 +161,28 @@ integers-range rd =
       u8 = λ n. (λ h. h, λ h. h);
     }
 
-strict-reads : (k g : ℕ) → k ≤ 3 → k + g ≤ 8 → Reads reading k g
-strict-reads k g hk h =
-    let v = length-and-value k g hk h in
-    record {
-      back = v .back;
-      fit = λ l s m n hl e. let r = v .range l s m n hl e in (r .sign, r .plain, r .size);
-      short = λ l s m n hl e. omega (arith, v .shortest l s m n hl (reading-decoded k g l s m n e), reading-inside k g l s m n e, length-drop n l);
-    }
+-- ---- those of a form: exact where it is the only one
 
-pub strict-law : IntegersLaw (Unit {0}) strict
-strict-law = integers-law (Unit {0}) reading strict-reads (λ x k g hk h. length-and-value k g hk h .exact)
+module _ (strictly : Bool) where
+  form-reads : (k g : ℕ) → k ≤ 3 → k + g ≤ 8 → Reads (readingBy strictly) k g
+  form-reads k g hk h =
+      let v = length-and-value strictly k g hk h in
+      record {
+        back = v .back;
+        fit = λ l s m n hl e. let r = v .range l s m n hl e in (r .sign, r .plain, r .size);
+        short = λ l s m n hl e. omega (arith, v .shortest l s m n hl e, reading-inside strictly k g l s m n e, length-drop n l);
+      }
+
+  pub form-law : IntegersLaw (strictly ≡ true) (takenBy strictly)
+  form-law = integers-law (strictly ≡ true) (readingBy strictly) form-reads (λ x k g hk h. length-and-value strictly k g hk h .exact x)
 
 -- ---- those that are taken
 
-pub taken-law : IntegersLaw (Unit {0}) taken
-taken-law = strict-law
-
--- refused with 5 or 6
-pub taken-refused : (k g : ℕ) (l : List ℕ) (e : ℕ) → takenReading k g l ≡ refused e → Fault e
-taken-refused k g = only-form-refused (tops k g) (signs g)
+pub taken-law : IntegersLaw (false ≡ true) taken
+taken-law = form-law false
 
 pub taken-range : IntegersRange taken
-taken-range = integers-range takenReading
+taken-range = integers-range (readingBy false)
 
 pub taken-counts : Downward (taken .u2)
-taken-counts = integer-downward takenReading 1 (lit≤ tt)
+taken-counts = integer-downward (readingBy false) 1 (lit≤ tt)

@@ -2,16 +2,17 @@
 -- Assumes nothing.
 use Prim.Native.Nat.{ℕ, _+_, _≤_}
 use mathlib.Core.Path.{_≡_, refl, ap}
+use mathlib.Core.Bool.{false}
 use mathlib.Core.List.{List}
 use native.Mathlib.Omega.{arith}
 use lib.ListN.{length, drop, length-drop}
 use Rattle.formats.specs.Format.{got}
 use Rattle.formats.proofs.Laws.{never}
 use Rattle.formats.proofs.Least.{Takes}
-use Rattle.integers.specs.Integer.{Reading, value, refused}
-use Rattle.integers.proofs.Laws.{reading-one}
-use Rattle.fields.specs.Integers.{Shape, unsigned, signed, gotBy, integer, Integers, integersBy, takenReading, taken}
-use Rattle.fields.proofs.Order.{Inside, taken-inside}
+use Rattle.integers.specs.Integer.{Reading, value, refused, readingBy}
+use Rattle.integers.proofs.Laws.{reading-one, reading-inside}
+use Rattle.fields.specs.Integers.{Shape, unsigned, signed, gotBy, integer, Integers, integersBy, taken}
+use Rattle.fields.proofs.Order.{Inside}
 
 pub record IntegersLeast (i : Integers) : Type 0 where
   pub u2 : Takes 1 (i .u2)
@@ -41,4 +42,4 @@ module _ (rd : ℕ → ℕ → List ℕ → Reading) (one : (k g : ℕ) (l : Lis
       }
 
 pub taken-least : IntegersLeast taken
-taken-least = integers-least takenReading reading-one taken-inside
+taken-least = integers-least (readingBy false) (reading-one false) (reading-inside false)

@@ -2,15 +2,16 @@
 -- Assumes nothing.
 use Prim.Native.Nat.{ℕ, _≤_}
 use mathlib.Core.Path.{_≡_, refl}
+use mathlib.Core.Bool.{Bool}
 use mathlib.Core.List.{List, _++_}
 use native.Mathlib.Omega.{arith}
 use lib.ListN.{length}
 use lib.Seq.{drop-append-le}
 use Rattle.paper.specs.Refusals.{truncated}
 use Rattle.formats.proofs.Order.{behind, Settled, Stays, Ordered}
-use Rattle.integers.specs.Integer.{Reading, value, refused, reading}
+use Rattle.integers.specs.Integer.{Reading, value, refused, readingBy}
 use Rattle.integers.proofs.Laws.{reading-inside, reading-more}
-use Rattle.fields.specs.Integers.{Shape, unsigned, signed, gotBy, integer, Integers, integersBy, strict, takenReading}
+use Rattle.fields.specs.Integers.{Shape, unsigned, signed, gotBy, integer, Integers, integersBy, takenBy}
 
 -- a reading that is not short of bytes is the same with bytes behind
 abbrev pub Kept : (List ℕ → Reading) → Type 0
@@ -50,9 +51,5 @@ integers-ordered rd h n =
       u8 = integer-ordered unsigned rd 3 0 (h 3 0) (n 3 0);
     }
 
-pub strict-ordered : IntegersOrdered strict
-strict-ordered = integers-ordered reading reading-more reading-inside
-
--- those that are taken end inside what they were given
-pub taken-inside : (k g : ℕ) → Inside (takenReading k g)
-taken-inside = reading-inside
+pub form-ordered : (strictly : Bool) → IntegersOrdered (takenBy strictly)
+form-ordered strictly = integers-ordered (readingBy strictly) (reading-more strictly) (reading-inside strictly)

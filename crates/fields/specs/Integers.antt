@@ -1,10 +1,11 @@
 -- The five integers of 000, 2.2.2, as formats: over a reading, so that a message's format does not say which lengths are taken.
 use Prim.Native.Nat.{ℕ, _<_}
+use mathlib.Core.Bool.{Bool, true, false}
 use mathlib.Core.List.{List}
 use lib.IntN.{ℤ, natAbs}
 use lib.ListN.{drop}
 use Rattle.formats.specs.Format.{Got, got, bad, Format}
-use Rattle.integers.specs.Integer.{Reading, value, refused, reading, writing, limit}
+use Rattle.integers.specs.Integer.{Reading, value, refused, readingBy, writing, limit}
 use Rattle.integers.specs.Answer.{minus, signedValue}
 
 -- values as sign and magnitude
@@ -52,13 +53,17 @@ integersBy rd =
       u8 = integer unsigned rd 3 0;
     }
 
--- in their only form
+-- strictly in their only form, or in any
+abbrev pub takenBy : Bool → Integers
+takenBy strictly = integersBy (readingBy strictly)
+
 abbrev pub strict : Integers
-strict = integersBy reading
+strict = takenBy true
 
--- how messages are read ("Readers take only that form"), and so the five of their formats
-abbrev pub takenReading : ℕ → ℕ → List ℕ → Reading
-takenReading = reading
+abbrev pub lenient : Integers
+lenient = takenBy false
 
+-- how messages are read ("The receiver and the plain reading now accept every length that document 000 allows, and minus zero as zero"), and so the
+-- five of their formats
 abbrev pub taken : Integers
-taken = integersBy takenReading
+taken = lenient

@@ -3,3 +3,4 @@ pub mod Order
 pub mod Steps
 pub mod Least
 pub mod Refusing
+pub mod Agreeing

@@ -8,3 +8,4 @@ pub mod Tail
 pub mod Begun
 pub mod Least
 pub mod Whole
+pub mod Agreeing

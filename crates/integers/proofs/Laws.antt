@@ -17,7 +17,7 @@ use Rattle.paper.specs.Refusals.{truncated, notShortest, badRange}
 use Rattle.digits.specs.Digits.{joined, digits, Bytes}
 use Rattle.digits.proofs.Laws.{bytes-take, pow-pos, joined-whole, joined-div, joined-small, digits-joined, length-digits}
 use Rattle.slices.specs.Writing.{bytes, refuse}
-use Rattle.integers.specs.Integer.{Reading, value, refused, decoded, furthest, fewest, only, decodedOnly, formed, written, countOf, signOf, tops, signs, limit, reading, writing, draft}
+use Rattle.integers.specs.Integer.{Reading, value, refused, decoded, furthest, fewest, only, signOver, any, formBy, decodedBy, formed, written, countOf, signOf, tops, signs, limit, readingBy, reading, anyReading, writing, draft}
 use Rattle.integers.proofs.Fewest.{fewest-fits, fewest-least, fewest-most}
 use Rattle.integers.proofs.ByteOne.{tops-pos, signs-pos, count-range, held}
 
@@ -118,6 +118,16 @@ decoded-one t q l s m n e = go (decoded-cases t q l)
     go (short k d) = never _ s m n (sym d ∙ e)
     go (whole k d) = let en : countOf t q (getD l 0 0) + 1 ≡ n = cc in omega arith
 
+-- its sign is one of q
+pub decoded-sign : (t q : ℕ) → 0 < q → (l : List ℕ) (s m n : ℕ) → decoded t q l ≡ value s m n → s < q
+decoded-sign t q hq l s m n e = go (decoded-cases t q l)
+  where
+    go : Cases t q l → s < q
+    go (short k d) = never truncated s m n (sym d ∙ e)
+    go (whole k d) =
+        let es : signOf t q (getD l 0 0) ≡ s = cc in
+        rw es at (mod-lt (getD l 0 0 / t) hq)
+
 -- what follows changes nothing, but where the list ended inside the integer
 pub decoded-more : (t q : ℕ) (l more : List ℕ) (x : Reading) → decoded t q l ≡ x → (x ≡ refused truncated → ⊥) → decoded t q (l ++ more) ≡ x
 decoded-more t q l more x e other = go l (decoded-cases t q l) e
@@ -170,11 +180,63 @@ module _ (t s m n : ℕ) where
   unfolding only
   only-same e h = rw (eq-eqb _ _ e, le-leb _ _ h)
 
+-- ---- any form
+
+-- of a value in a form the magnitude, the length and the sign were decoded; the sign of minus zero became 0
+pub record FormOf (x : Reading) (s m n : ℕ) : Type 0 where
+  pub read : ℕ
+  pub same : x ≡ value read m n
+  pub plain : s ≤ m
+  pub sign : s ≤ read
+
+-- of minus zero alone the sign is another
+module _ (s m : ℕ) where
+  pub sign-same : s ≤ m → signOver s m ≡ s
+  unfolding signOver
+  sign-same h = rw (le-leb _ _ h)
+
+  pub sign-minus : m < s → signOver s m ≡ 0
+  unfolding signOver
+  sign-minus h = rw (lt-leb _ _ h)
+
+  pub sign-plain : (signOver s m ≤ m) × (signOver s m ≤ s)
+  unfolding signOver
+  sign-plain = go (leb s m) refl
+    where
+      go : (y : Bool) → leb s m ≡ y → (cond y s 0 ≤ m) × (cond y s 0 ≤ s)
+      go true v = omega (arith, leb-true s m v)
+      go false v = omega arith
+
+pub any-value : (x : Reading) (s m n : ℕ) → any x ≡ value s m n → FormOf x s m n
+unfolding any
+any-value (refused y) s m n e = never y s m n e
+any-value (value a b c) s m n e =
+    let es : signOver a b ≡ s = cc in
+    let eb : b ≡ m = cc in
+    let ec : c ≡ n = cc in
+    let p = sign-plain a b in
+    record { read = a; same = rw (eb, ec); plain = rw (es, eb) at (p .0); sign = rw es at (p .1) }
+
+pub any-same : (s m n : ℕ) → s ≤ m → any (value s m n) ≡ value s m n
+unfolding any
+any-same s m n h = rw (sign-same s m h)
+
+-- ---- of either
+
+pub form-value : (b : Bool) (t : ℕ) (x : Reading) (s m n : ℕ) → formBy b t x ≡ value s m n → FormOf x s m n
+form-value true t x s m n e =
+    let o = only-value t x s m n e in
+    record { read = s; same = o .same; plain = o .plain; sign = omega arith }
+form-value false t x s m n e = any-value x s m n e
+
 -- reading what was written gives the value back with its length, whatever follows
-pub only-form-written : (t q s m : ℕ) (l : List ℕ) → s < q → s ≤ m → m < t * 256 ^ furthest → decodedOnly t q (written t q s m ++ l) ≡ value s m (length (written t q s m))
-unfolding decodedOnly only
-only-form-written t q s m l hs hp hm =
-    rw (decoded-formed t q (fewest furthest t m) s m l hs (fewest-fits furthest t m hm), eq-eqb (fewest furthest t m + 1) (fewest furthest t m + 1) refl, le-leb s m hp, length-formed)
+pub form-written : (b : Bool) (t q s m : ℕ) (l : List ℕ) → s < q → s ≤ m → m < t * 256 ^ furthest → decodedBy b t q (written t q s m ++ l) ≡ value s m (length (written t q s m))
+unfolding decodedBy
+form-written b t q s m l hs hp hm = rw (decoded-formed t q (fewest furthest t m) s m l hs (fewest-fits furthest t m hm), length-formed) (go b)
+  where
+    go : (b : Bool) → formBy b t (value s m (fewest furthest t m + 1)) ≡ value s m (fewest furthest t m + 1)
+    go true = only-same t s m (fewest furthest t m + 1) refl hp
+    go false = any-same s m (fewest furthest t m + 1) hp
 
 -- what is read begins with exactly the bytes that are written for the value
 pub record Accepted (t q : ℕ) (l : List ℕ) (s m n : ℕ) : Type 0 where
@@ -184,8 +246,8 @@ pub record Accepted (t q : ℕ) (l : List ℕ) (s m n : ℕ) : Type 0 where
   pub bytes : take n l ≡ written t q s m
   pub least : n ≡ fewest furthest t m + 1
 
-pub only-form-accepted : (t q : ℕ) → 0 < t → 0 < q → (l : List ℕ) (s m n : ℕ) → Bytes l → decodedOnly t q l ≡ value s m n → Accepted t q l s m n
-unfolding decodedOnly
+pub only-form-accepted : (t q : ℕ) → 0 < t → 0 < q → (l : List ℕ) (s m n : ℕ) → Bytes l → decodedBy true t q l ≡ value s m n → Accepted t q l s m n
+unfolding decodedBy
 only-form-accepted t q ht hq l s m n h e =
     let o = only-value t (decoded t q l) s m n e in
     let d = decoded-bytes t q ht hq l s m n h (o .same) in
@@ -199,9 +261,14 @@ only-form-accepted t q ht hq l s m n h e =
     }
 
 -- what follows changes nothing, but where the list ended inside the integer
-pub only-form-more : (t q : ℕ) (l more : List ℕ) (x : Reading) → decodedOnly t q l ≡ x → (x ≡ refused truncated → ⊥) → decodedOnly t q (l ++ more) ≡ x
-unfolding decodedOnly only
-only-form-more t q l more x e other = ap (only t) (decoded-more t q l more (decoded t q l) refl (λ d. other (sym e ∙ ap (only t) d))) ∙ e
+pub form-more : (b : Bool) (t q : ℕ) (l more : List ℕ) (x : Reading) → decodedBy b t q l ≡ x → (x ≡ refused truncated → ⊥) → decodedBy b t q (l ++ more) ≡ x
+unfolding decodedBy only any
+form-more b t q l more x e other =
+    ap (formBy b t) (decoded-more t q l more (decoded t q l) refl (λ d. other (sym e ∙ ap (formBy b t) d ∙ kept b))) ∙ e
+  where
+    kept : (b : Bool) → formBy b t (refused truncated) ≡ refused truncated
+    kept true = refl
+    kept false = refl
 
 -- what is decoded is refused with 5 alone
 pub decoded-refused : (t q : ℕ) (l : List ℕ) (e : ℕ) → decoded t q l ≡ refused e → e ≡ truncated
@@ -221,35 +288,59 @@ only-refused t s m n e h = go (eqb (fewest furthest t m + 1) n) (leb s m) h
     go true false h = cc
     go false y h = cc
 
--- so an integer is refused with 5 or 6
-pub data Fault (e : ℕ) : Type 0 where
-  cut : e ≡ truncated → Fault e
-  form : e ≡ notShortest → Fault e
+-- so an integer is refused with 5; or with 6, strictly
+pub data Fault (strictly : Bool) (e : ℕ) : Type 0 where
+  cut : e ≡ truncated → Fault strictly e
+  form : strictly ≡ true → e ≡ notShortest → Fault strictly e
 
-pub only-form-refused : (t q : ℕ) (l : List ℕ) (e : ℕ) → decodedOnly t q l ≡ refused e → Fault e
-unfolding decodedOnly only
-only-form-refused t q l e h = go (decoded t q l) refl h
+pub form-refused : (b : Bool) (t q : ℕ) (l : List ℕ) (e : ℕ) → decodedBy b t q l ≡ refused e → Fault b e
+unfolding decodedBy only any
+form-refused b t q l e h = go b (decoded t q l) refl h
   where
-    go : (x : Reading) → decoded t q l ≡ x → only t x ≡ refused e → Fault e
-    go (value s m n) d h = form (only-refused t s m n e h)
-    go (refused y) d h = let same : y ≡ e = cc in cut (sym same ∙ decoded-refused t q l y d)
+    go : (b : Bool) (x : Reading) → decoded t q l ≡ x → formBy b t x ≡ refused e → Fault b e
+    go true (value s m n) d h = form refl (only-refused t s m n e h)
+    go true (refused y) d h = let same : y ≡ e = cc in cut (sym same ∙ decoded-refused t q l y d)
+    go false (value s m n) d h = never e (signOver s m) m n (sym h)
+    go false (refused y) d h = let same : y ≡ e = cc in cut (sym same ∙ decoded-refused t q l y d)
+
+-- what is refused with 6 strictly, or read alike in both forms
+pub data Apart (x y : Reading) : Type 0 where
+  six : x ≡ refused notShortest → Apart x y
+  alike : x ≡ y → Apart x y
+
+form-apart : (t : ℕ) (x : Reading) → Apart (only t x) (any x)
+unfolding only any
+form-apart t (refused e) = alike refl
+form-apart t (value s m n) = go (eqb (fewest furthest t m + 1) n) (leb s m) refl
+  where
+    go : (x y : Bool) → leb s m ≡ y → Apart (cond x (cond y (value s m n) (refused notShortest)) (refused notShortest)) (value (signOver s m) m n)
+    go true true v = alike (rw (sign-same s m (leb-true s m v)))
+    go true false v = six refl
+    go false y v = six refl
 
 -- ---- by count bits and sign bits
 
--- a value that is read is decoded
-pub reading-decoded : (k g : ℕ) (l : List ℕ) (s m n : ℕ) → reading k g l ≡ value s m n → decoded (tops k g) (signs g) l ≡ value s m n
-unfolding decodedOnly
-reading-decoded k g l s m n e = only-value (tops k g) (decoded (tops k g) (signs g) l) s m n e .same
+module _ (strictly : Bool) (k g : ℕ) where
+  -- a value that is read was decoded, but for the sign of minus zero
+  pub reading-decoded : (l : List ℕ) (s m n : ℕ) → readingBy strictly k g l ≡ value s m n → FormOf (decoded (tops k g) (signs g) l) s m n
+  unfolding decodedBy
+  reading-decoded l s m n e = form-value strictly (tops k g) (decoded (tops k g) (signs g) l) s m n e
 
-pub reading-inside : (k g : ℕ) (l : List ℕ) (s m n : ℕ) → reading k g l ≡ value s m n → n ≤ length l
-reading-inside k g l s m n e = decoded-inside (tops k g) (signs g) l s m n (reading-decoded k g l s m n e)
+  pub reading-inside : (l : List ℕ) (s m n : ℕ) → readingBy strictly k g l ≡ value s m n → n ≤ length l
+  reading-inside l s m n e = decoded-inside (tops k g) (signs g) l _ m n (reading-decoded l s m n e .same)
 
-pub reading-one : (k g : ℕ) (l : List ℕ) (s m n : ℕ) → reading k g l ≡ value s m n → 1 ≤ n
-unfolding decodedOnly
-reading-one k g l s m n e = decoded-one (tops k g) (signs g) l s m n (only-value (tops k g) (decoded (tops k g) (signs g) l) s m n e .same)
+  pub reading-one : (l : List ℕ) (s m n : ℕ) → readingBy strictly k g l ≡ value s m n → 1 ≤ n
+  reading-one l s m n e = decoded-one (tops k g) (signs g) l _ m n (reading-decoded l s m n e .same)
 
-pub reading-more : (k g : ℕ) (l more : List ℕ) (x : Reading) → reading k g l ≡ x → (x ≡ refused truncated → ⊥) → reading k g (l ++ more) ≡ x
-reading-more k g = only-form-more (tops k g) (signs g)
+  pub reading-more : (l more : List ℕ) (x : Reading) → readingBy strictly k g l ≡ x → (x ≡ refused truncated → ⊥) → readingBy strictly k g (l ++ more) ≡ x
+  reading-more = form-more strictly (tops k g) (signs g)
+
+  pub reading-refused : (l : List ℕ) (e : ℕ) → readingBy strictly k g l ≡ refused e → Fault strictly e
+  reading-refused = form-refused strictly (tops k g) (signs g)
+
+pub readings : (k g : ℕ) (l : List ℕ) → Apart (reading k g l) (anyReading k g l)
+unfolding decodedBy
+readings k g l = form-apart (tops k g) (decoded (tops k g) (signs g) l)
 
 -- what is decoded, at any length, is in the range of its kind
 pub record Bounded (k g : ℕ) (s m n : ℕ) : Type 0 where
@@ -275,12 +366,11 @@ pub record Ranged (k g : ℕ) (s m n : ℕ) : Type 0 where
   pub size : m < limit k g
   pub len : n ≤ 2 ^ k
 
-pub reading-ranged : (k g : ℕ) (l : List ℕ) (s m n : ℕ) → k + g ≤ 8 → Bytes l → reading k g l ≡ value s m n → Ranged k g s m n
-unfolding decodedOnly
-reading-ranged k g l s m n h hl e =
-    let o = only-value (tops k g) (decoded (tops k g) (signs g) l) s m n e in
-    let b = decoded-bounded k g l s m n h hl (o .same) in
-    record { sign = b .sign; plain = o .plain; size = b .size; len = b .len }
+pub reading-ranged : (strictly : Bool) (k g : ℕ) (l : List ℕ) (s m n : ℕ) → k + g ≤ 8 → Bytes l → readingBy strictly k g l ≡ value s m n → Ranged k g s m n
+reading-ranged strictly k g l s m n h hl e =
+    let f = reading-decoded strictly k g l s m n e in
+    let b = decoded-bounded k g l (f .read) m n h hl (f .same) in
+    record { sign = omega (arith, f .sign, b .sign); plain = f .plain; size = b .size; len = b .len }
 
 -- what is decoded takes no fewer bytes than are written for its value
 decoded-longer : (k g : ℕ) (l : List ℕ) (s m n : ℕ) → Bytes l → decoded (tops k g) (signs g) l ≡ value s m n → length (writing k g s m) ≤ n
@@ -289,24 +379,6 @@ decoded-longer k g l s m n hl e =
     let d = decoded-bytes t (signs g) (tops-pos k g) (signs-pos g) l s m n hl e in
     let c = fewest-least furthest t m (countOf t (signs g) (getD l 0 0)) (d .small) in
     omega (arith, c, d .count, length-formed t (signs g) (fewest furthest t m) s m)
-
--- THE LAW OF LENGTH AND VALUE: what is written is read back with its length, whatever follows; a reading accepts only what is written for
--- the value that it gives, and that value is in the kind's range; and no bytes that decode as a value, at any length, are fewer than those
--- that are written for it
-pub record LengthAndValue (k g : ℕ) : Type 0 where
-  pub back : (s m : ℕ) (l : List ℕ) → s < signs g → s ≤ m → m < limit k g → reading k g (writing k g s m ++ l) ≡ value s m (length (writing k g s m))
-  pub exact : (l : List ℕ) (s m n : ℕ) → Bytes l → reading k g l ≡ value s m n → take n l ≡ writing k g s m
-  pub range : (l : List ℕ) (s m n : ℕ) → Bytes l → reading k g l ≡ value s m n → Ranged k g s m n
-  pub shortest : (l : List ℕ) (s m n : ℕ) → Bytes l → decoded (tops k g) (signs g) l ≡ value s m n → length (writing k g s m) ≤ n
-
-pub length-and-value : (k g : ℕ) → k ≤ 3 → k + g ≤ 8 → LengthAndValue k g
-length-and-value k g hk h =
-    record {
-      back = λ s m l hs hp hm. only-form-written (tops k g) (signs g) s m l hs hp (held k g m hk h hm .long);
-      exact = λ l s m n hl e. only-form-accepted (tops k g) (signs g) (tops-pos k g) (signs-pos g) l s m n hl e .bytes;
-      range = λ l s m n hl e. reading-ranged k g l s m n h hl e;
-      shortest = decoded-longer k g;
-    }
 
 -- ---- what is written
 
@@ -321,6 +393,25 @@ module _ (k g s m : ℕ) where
   writing-most =
       let t = tops k g in
       omega (arith, length-formed t (signs g) (fewest furthest t m) s m, fewest-most furthest t m)
+
+-- THE LAW OF LENGTH AND VALUE: what is written is read back with its length, whatever follows; the value of a reading is in the kind's range,
+-- and no bytes that are read as it are fewer than those that are written for it; and strictly it is read of just those
+pub record LengthAndValue (strictly : Bool) (k g : ℕ) : Type 0 where
+  pub back : (s m : ℕ) (l : List ℕ) → s < signs g → s ≤ m → m < limit k g → readingBy strictly k g (writing k g s m ++ l) ≡ value s m (length (writing k g s m))
+  pub range : (l : List ℕ) (s m n : ℕ) → Bytes l → readingBy strictly k g l ≡ value s m n → Ranged k g s m n
+  pub shortest : (l : List ℕ) (s m n : ℕ) → Bytes l → readingBy strictly k g l ≡ value s m n → length (writing k g s m) ≤ n
+  pub exact : strictly ≡ true → (l : List ℕ) (s m n : ℕ) → Bytes l → readingBy strictly k g l ≡ value s m n → take n l ≡ writing k g s m
+
+pub length-and-value : (strictly : Bool) (k g : ℕ) → k ≤ 3 → k + g ≤ 8 → LengthAndValue strictly k g
+length-and-value strictly k g hk h =
+    record {
+      back = λ s m l hs hp hm. form-written strictly (tops k g) (signs g) s m l hs hp (held k g m hk h hm .long);
+      range = λ l s m n hl e. reading-ranged strictly k g l s m n h hl e;
+      shortest = λ l s m n hl e.
+          let f = reading-decoded strictly k g l s m n e in
+          omega (arith, decoded-longer k g l (f .read) m n hl (f .same), writing-sign k g s m, writing-sign k g (f .read) m);
+      exact = λ x l s m n hl e. only-form-accepted (tops k g) (signs g) (tops-pos k g) (signs-pos g) l s m n hl (rw x at e) .bytes;
+    }
 
 -- a magnitude that is less is written no longer
 pub writing-shorter : (k g s m n : ℕ) → k ≤ 3 → k + g ≤ 8 → m ≤ n → n < limit k g → length (writing k g s m) ≤ length (writing k g s n)

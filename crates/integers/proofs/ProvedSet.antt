@@ -5,7 +5,7 @@ use mathlib.Core.Path.{_≡_, refl}
 use mathlib.Core.List.{List, [], _∷_, map}
 use Rattle.paper.specs.Refusals.{notShortest}
 use Rattle.digits.specs.Digits.{joined, digits}
-use Rattle.integers.specs.Integer.{Reading, value, refused, reading, writing, decodedOnly, only, fewest, decoded, formed}
+use Rattle.integers.specs.Integer.{Reading, value, refused, reading, writing, decodedBy, only, fewest, decoded, formed}
 
 -- count bits, sign bits, bytes, and the answer: a sign, a magnitude and a length, or a refusal
 pub record Row : Type 0 where
@@ -67,5 +67,5 @@ pub record Proved (rows : List Row) : Type 0 where
   pub written : map writtenOf rows ≡ map (λ r. r .bytes) rows
 
 pub proved-set : Proved table
-unfolding table readOf writtenOf writtenAs joined digits fewest decodedOnly only decoded formed
+unfolding table readOf writtenOf writtenAs joined digits fewest decodedBy only decoded formed
 proved-set = record { read = refl; written = refl }

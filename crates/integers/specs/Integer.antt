@@ -4,7 +4,7 @@
 -- The remaining bytes follow, most significant first." "Signed values are sign and magnitude."
 use Prim.Native.Nat.{ℕ, zero, suc, _+_, _-_, _*_, _/_, _%_, _^_}
 use mathlib.Core.List.{List, _∷_}
-use mathlib.Core.Bool.{cond}
+use mathlib.Core.Bool.{Bool, true, false, cond}
 use lib.ListN.{length, getD, take, drop}
 use lib.Dec.{ltb, leb, eqb}
 use Rattle.paper.specs.Refusals.{truncated, notShortest, badRange}
@@ -54,18 +54,38 @@ unfoldable pub fewest : ℕ → ℕ → ℕ → ℕ
 fewest zero t n = zero
 fewest (suc f) t n = cond (ltb n t) zero (suc (fewest f t (n / 256)))
 
--- "Writers use the fewest bytes and write zero as positive. Readers take only that form": of sign 0 or 1 and magnitude m, only minus zero
--- has the sign above m
+-- "Writers use the fewest bytes and write zero as positive. Readers take only that form", which since #104 the strict reading does: of sign 0 or 1
+-- and magnitude m, only minus zero has the sign above m
 unfoldable pub only : ℕ → Reading → Reading
 only t (value s m n) = cond (eqb (fewest furthest t m + 1) n) (cond (leb s m) (value s m n) (refused notShortest)) (refused notShortest)
 only t (refused e) = refused e
 
-unfoldable pub decodedOnly : ℕ → ℕ → List ℕ → Reading
-decodedOnly t q l = only t (decoded t q l)
+-- #104: "accept every length that document 000 allows, and minus zero as zero": the sign s over the magnitude m, which is none over nothing
+unfoldable pub signOver : ℕ → ℕ → ℕ
+signOver s m = cond (leb s m) s 0
+
+unfoldable pub any : Reading → Reading
+any (value s m n) = value (signOver s m) m n
+any (refused e) = refused e
+
+-- with the test for the only form, or without it
+abbrev pub formBy : Bool → ℕ → Reading → Reading
+formBy true t x = only t x
+formBy false t x = any x
+
+unfoldable pub decodedBy : Bool → ℕ → ℕ → List ℕ → Reading
+decodedBy strictly t q l = formBy strictly t (decoded t q l)
 
 -- reading, by count bits and sign bits
+abbrev pub readingBy : Bool → ℕ → ℕ → List ℕ → Reading
+readingBy strictly k g = decodedBy strictly (tops k g) (signs g)
+
+-- in the only form, and in any
 abbrev pub reading : ℕ → ℕ → List ℕ → Reading
-reading k g = decodedOnly (tops k g) (signs g)
+reading = readingBy true
+
+abbrev pub anyReading : ℕ → ℕ → List ℕ → Reading
+anyReading = readingBy false
 
 -- the number of a refusal, and 0 of a value
 abbrev pub refusalOf : Reading → ℕ

@@ -5,9 +5,11 @@ use crate::common::widened;
 ghost use mathlib.Core.Path.{_≡_};
 ghost use Prim.Native.Nat.{_+_, _*_, _<_, _≤_};
 ghost use lib.ListN.{length};
+ghost use mathlib.Core.Bool.{cond};
+ghost use Rattle.paper.specs.Refusals.{notShortest};
 ghost use Rattle.digits.specs.Digits.{joined};
-ghost use Rattle.integers.specs.Integer.{decoded, only, reading};
-ghost use Rattle.integers.specs.Found.{foundOf};
+ghost use Rattle.integers.specs.Integer.{value, refused, decoded, only};
+ghost use Rattle.integers.specs.Found.{foundOf, Finds};
 
 // A sign (1 is minus), a magnitude and a length; or a refusal's number.
 pub(crate) enum Found {
@@ -49,27 +51,34 @@ fn decode(rest: &[u8], tops: u8, signs: u8) -> Found
     )
 }
 
-// What was decoded, if it stood in its only form: with the fewest bytes, and not as minus zero.
-fn only_form(got: Found, tops: u8) -> Found
-    ensures { λ r. ⌜ foundOf r ≡ only tops (foundOf got) ⌝ }
+// Whether what was decoded stood in its only form: with the fewest bytes, and not as minus zero.
+fn is_only_form(tops: u8, s: u8, m: u64, n: usize) -> bool
+    ensures { λ r. ⌜ only tops (value s m n) ≡ cond r (value s m n) (refused notShortest) ⌝ }
 {
+    if n != fewest_of(widened(tops), m) + 1 {
+        return false;
+    }
+    if m < widened(s) {
+        return false;
+    }
+    true
+}
+
+// An integer of k count bits and g sign bits, strictly in its only form or in any. A minus zero keeps its sign.
+pub(crate) fn find(rest: &[u8], k: u8, g: u8, strictly: bool) -> Found
+    requires { ⌜ (0 < k) × (k ≤ 3) × (g ≤ 1) ⌝ }
+    ensures { λ r. ⌜ Finds strictly k g (now (rest .entry)) r ⌝ }
+{
+    let tops = power(8 - (k + g));
+    let got = decode(rest, tops, power(g));
     let Found::Value(s, m, n) = got else {
         return got;
     };
-    if n != fewest_of(widened(tops), m) + 1 {
-        return Found::Refused(paper::NOT_SHORTEST);
-    }
-    if m < widened(s) {
+    if strictly {
+        if is_only_form(tops, s, m, n) {
+            return got;
+        }
         return Found::Refused(paper::NOT_SHORTEST);
     }
     got
-}
-
-// An integer of k count bits and g sign bits, in its only form.
-pub(crate) fn find(rest: &[u8], k: u8, g: u8) -> Found
-    requires { ⌜ (0 < k) × (k ≤ 3) × (g ≤ 1) ⌝ }
-    ensures { λ r. ⌜ foundOf r ≡ reading k g (now (rest .entry)) ⌝ }
-{
-    let tops = power(8 - (k + g));
-    only_form(decode(rest, tops, power(g)), tops)
 }

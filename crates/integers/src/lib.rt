@@ -1,8 +1,10 @@
-// The five integers of 000, 2.2.2: read in their only form, written in it, and how long that is.
+// The five integers of 000, 2.2.2: read in their only form or in any, written in their only form, and how long that is.
 mod common;
 mod found;
 mod lengths;
+mod lenient;
 mod read;
+mod strict;
 mod write;
 
 pub use lengths::s2_bytes;
@@ -10,11 +12,21 @@ pub use lengths::s4_bytes;
 pub use lengths::u2_bytes;
 pub use lengths::u4_bytes;
 pub use lengths::u8_bytes;
-pub use read::read_s2;
-pub use read::read_s4;
-pub use read::read_u2;
-pub use read::read_u4;
-pub use read::read_u8;
+pub use lenient::read_any_s2;
+pub use lenient::read_any_s4;
+pub use lenient::read_any_u2;
+pub use lenient::read_any_u4;
+pub use lenient::read_any_u8;
+pub use read::read_s2_by;
+pub use read::read_s4_by;
+pub use read::read_u2_by;
+pub use read::read_u4_by;
+pub use read::read_u8_by;
+pub use strict::read_s2;
+pub use strict::read_s4;
+pub use strict::read_u2;
+pub use strict::read_u4;
+pub use strict::read_u8;
 pub use write::write_s2;
 pub use write::write_s4;
 pub use write::write_u2;

@@ -13,7 +13,7 @@ use Rattle.paper.specs.Refusals.{short, tooLong, unexpected, badLength, badFiel
 use Rattle.digits.specs.Digits.{Bytes}
 use Rattle.digits.proofs.Laws.{bytes-drop}
 use Rattle.formats.specs.Format.{Got, got, bad, andThen, Format, byte, little, writeLittle, whole}
-use Rattle.formats.proofs.Laws.{Law, never, little-exact, whole-back, whole-exact, whole-sound, done-law, field-law, such-law, byte-law, little-law}
+use Rattle.formats.proofs.Laws.{Law, never, little-exact, whole-back, whole-exact, whole-short, whole-sound, done-law, field-law, such-law, byte-law, little-law}
 use Rattle.formats.proofs.Steps.{tail}
 use Rattle.formats.proofs.Order.{Ordered, done-ordered, field-ordered, such-ordered, byte-ordered, little-ordered}
 use Rattle.messages.specs.Header.{headerBytes, mostBytes, eventOf, pduLength, oneOf, headed, readMessage, header, writeMessage}
@@ -156,19 +156,23 @@ header-exact l hl h =
     little-exact 4 (drop 2 l) (pduLength l) (drop headerBytes l) (bytes-drop 2 l hl) (simp (getD-drop, drop-drop) at (little-four (drop 2 l) k)) in
     two ∙ ap (λ (x : List ℕ). writeLittle 2 (eventOf l) ++ x) four ∙ sym (append-assoc (writeLittle 2 (eventOf l)) (writeLittle 4 (pduLength l)) (drop headerBytes l))
 
+-- the message of a body, whose header says how long it is, is read as its body is
+pub message-whole : {A : Type 0} (f : Format A) (e : ℕ) (b : List ℕ) → headerBytes + length b ≤ mostBytes → e < 65536 → readMessage e f (header e (headerBytes + length b) ++ b) ≡ whole f trailing b
+unfolding readMessage
+message-whole f e b k he =
+    let n = headerBytes + length b in
+    let l = header e n ++ b in
+    let long : length l ≡ n = header-long e n b in
+    let g = headed-good (e ∷ []) l (omega arith) (omega arith) (one-of-first e [] _ (event-back e n b he)) (length-back e n b (omega arith) ∙ sym long) in
+    rw (g, body-back e n b)
+
 -- ---- THE ROUND TRIP, for every lawful format of a body
 
 module _ {X : Type 0} {A : Type 0} (f : Format A) (law : Law X f) (e : ℕ) where
   -- what is written is read back
   pub message-back : (a : A) → f .Holds a → headerBytes + length (f .write a) ≤ mostBytes → e < 65536 → readMessage e f (writeMessage e f a) ≡ got a []
-  unfolding readMessage writeMessage
-  message-back a h k he =
-      let n = headerBytes + length (f .write a) in
-      let l = header e n ++ f .write a in
-      let long : length l ≡ n = header-long e n (f .write a) in
-      let g =
-      headed-good (e ∷ []) l (omega arith) (omega arith) (one-of-first e [] _ (event-back e n (f .write a) he)) (length-back e n (f .write a) (omega arith) ∙ sym long) in
-      rw (g, body-back e n (f .write a)) (whole-back f trailing (law .back) a h)
+  unfolding writeMessage
+  message-back a h k he = message-whole f e (f .write a) k he ∙ whole-back f trailing (law .back) a h
 
   -- what a message that is read says: its header, and the whole of its body
   pub record Read (l : List ℕ) (a : A) (t : List ℕ) : Type 0 where
@@ -194,6 +198,14 @@ module _ {X : Type 0} {A : Type 0} (f : Format A) (law : Law X f) (e : ℕ) wher
       let b : drop headerBytes l ≡ f .write a = whole-exact f trailing (law .exact x) (drop headerBytes l) a t (bytes-drop headerBytes l hl) (r .rest) in
       let n : length l ≡ headerBytes + length (f .write a) = omega (arith, r .head .low, length-drop headerBytes l, ap length b) in
       header-exact l hl (r .head .low) ∙ rw (r .head .event, r .head .long, n, b)
+
+  -- and is written in no more bytes
+  pub message-short : (l : List ℕ) (a : A) (t : List ℕ) → Bytes l → readMessage e f l ≡ got a t → length (writeMessage e f a) ≤ length l
+  unfolding writeMessage
+  message-short l a t hl h =
+      let r = message-got l a t h in
+      let b = whole-short f trailing (law .short) (drop headerBytes l) a t (bytes-drop headerBytes l hl) (r .rest) in
+      omega (arith, b, r .head .low, length-drop headerBytes l, header-long e (headerBytes + length (f .write a)) (f .write a))
 
   -- what is read can be written
   pub message-sound : (l : List ℕ) (a : A) (t : List ℕ) → Bytes l → readMessage e f l ≡ got a t → f .Holds a

@@ -2,11 +2,11 @@
 -- integers are strict it is written back to the same bytes.
 -- Assumes nothing.
 use Prim.Native.Nat.{ℕ}
-use mathlib.Core.Path.{ap}
-use mathlib.Core.Bool.{Bool}
+use mathlib.Core.Path.{_≡_, ap}
+use mathlib.Core.Bool.{Bool, true}
 use Rattle.formats.proofs.Laws.{Law, done-law, field-law, such-law, when-law, byte-law}
-use Rattle.fields.specs.Integers.{Integers, strict}
-use Rattle.fields.proofs.Laws.{IntegersLaw, strict-law}
+use Rattle.fields.specs.Integers.{Integers, takenBy}
+use Rattle.fields.proofs.Laws.{IntegersLaw, form-law}
 use Rattle.house.specs.WellFormed.{has}
 use Rattle.house.specs.Fits.{noSides}
 use Rattle.framing.proofs.Laws.{body-law}
@@ -51,5 +51,5 @@ module _ {X : Type 0} (i : Integers) (h : IntegersLaw X i) where
   pub touch-law : (judged : Bool) → Law X (touch i judged)
   touch-law = body-law i h touchLimits (contact i) contact-law
 
-pub strict-touch-law : (judged : Bool) → Law (Unit {0}) (touch strict judged)
-strict-touch-law = touch-law strict strict-law
+pub form-touch-law : (strictly judged : Bool) → Law (strictly ≡ true) (touch (takenBy strictly) judged)
+form-touch-law strictly = touch-law (takenBy strictly) (form-law strictly)

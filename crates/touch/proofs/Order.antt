@@ -4,8 +4,8 @@
 use Prim.Native.Nat.{ℕ}
 use mathlib.Core.Bool.{Bool}
 use Rattle.formats.proofs.Order.{Ordered, done-ordered, field-ordered, such-ordered, when-ordered, byte-ordered}
-use Rattle.fields.specs.Integers.{Integers, strict}
-use Rattle.fields.proofs.Order.{IntegersOrdered, strict-ordered}
+use Rattle.fields.specs.Integers.{Integers, takenBy}
+use Rattle.fields.proofs.Order.{IntegersOrdered, form-ordered}
 use Rattle.house.specs.WellFormed.{has}
 use Rattle.house.specs.Fits.{noSides}
 use Rattle.framing.proofs.Order.{body-ordered}
@@ -50,5 +50,6 @@ module _ (i : Integers) (h : IntegersOrdered i) where
   pub touch-ordered : (judged : Bool) → Ordered (touch i judged)
   touch-ordered = body-ordered i h touchLimits (contact i) contact-ordered
 
-pub strict-touch-ordered : (judged : Bool) → Ordered (touch strict judged)
-strict-touch-ordered = touch-ordered strict strict-ordered
+-- strictly or not
+pub form-touch-ordered : (strictly judged : Bool) → Ordered (touch (takenBy strictly) judged)
+form-touch-ordered strictly = touch-ordered (takenBy strictly) (form-ordered strictly)

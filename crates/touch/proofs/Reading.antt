@@ -12,24 +12,24 @@ use Rattle.formats.specs.Format.{Got, got, bad, Format, such, when}
 use Rattle.formats.specs.Answer.{Answers}
 use Rattle.formats.proofs.Laws.{such-got}
 use Rattle.formats.proofs.Steps.{Stepped}
-use Rattle.integers.specs.Integer.{Reading, value, refused}
-use Rattle.fields.specs.Integers.{unsigned, gotBy, integer, takenReading}
+use Rattle.integers.specs.Integer.{Reading, value, refused, readingBy}
+use Rattle.fields.specs.Integers.{unsigned, gotBy, integer}
 use Rattle.fields.specs.Answer.{lengthOf}
-use Rattle.fields.proofs.Answers.{taken-length}
+use Rattle.fields.proofs.Answers.{form-length}
 
 -- an unsigned integer of k count bits, read as x, and a test of its value
-module _ (k : ℕ) (q : ℕ → Bool) (e : ℕ) (l : List ℕ) (x : Reading) (h : x ≡ takenReading k 0 l) where
+module _ (strictly : Bool) (k : ℕ) (q : ℕ → Bool) (e : ℕ) (l : List ℕ) (x : Reading) (h : x ≡ readingBy strictly k 0 l) where
   inside : lengthOf x ≤ length l
-  inside = rw h (taken-length k 0 l)
+  inside = rw h (form-length strictly k 0 l)
 
   -- refused before the test; not at all; and by the test
-  pub test-before : (y : ℕ) → x ≡ refused y → Answers (such (integer unsigned takenReading k 0) q e) l (gotBy (unsigned .made) x l) (lengthOf x)
+  pub test-before : (y : ℕ) → x ≡ refused y → Answers (such (integer unsigned (readingBy strictly) k 0) q e) l (gotBy (unsigned .made) x l) (lengthOf x)
   test-before y w = record { same = rw (sym h, w); inside = inside }
 
-  pub test-holds : (s m n : ℕ) → x ≡ value s m n → q m ≡ true → Answers (such (integer unsigned takenReading k 0) q e) l (got m (drop n l)) n
+  pub test-holds : (s m n : ℕ) → x ≡ value s m n → q m ≡ true → Answers (such (integer unsigned (readingBy strictly) k 0) q e) l (got m (drop n l)) n
   test-holds s m n w t = record { same = rw (sym h, w, t); inside = rw w at inside }
 
-  pub test-fails : (s m n : ℕ) → x ≡ value s m n → q m ≡ false → Answers (such (integer unsigned takenReading k 0) q e) l (bad e) 0
+  pub test-fails : (s m n : ℕ) → x ≡ value s m n → q m ≡ false → Answers (such (integer unsigned (readingBy strictly) k 0) q e) l (bad e) 0
   test-fails s m n w t = record { same = rw (sym h, w, t); inside = omega arith }
 
 -- a part that may be absent

@@ -77,18 +77,18 @@ module _ (i : Integers) (l : List ℕ) where
 -- ---- the whole body
 
 module _ (l : List ℕ) where
-  begin-unique : (h : BodyHead) (m n : ℕ) → FramesAt l h m → FramesAt l h n → m ≡ n
-  begin-unique h m n a b =
+  begin-unique : (strictly : Bool) (h : BodyHead) (m n : ℕ) → FramesAt strictly l h m → FramesAt strictly l h n → m ≡ n
+  begin-unique strictly h m n a b =
       let e : drop m l ≡ drop n l = let p = a .head in let q = b .head in cc in
       sym (gone m l (a .inside)) ∙ ap (λ (t : List ℕ). length l - length t) e ∙ gone n l (b .inside)
 
-  pub check-body-unique : (judged : Bool) (a b : CheckedBody) → Checks judged l a → Checks judged l b → a ≡ b
-  check-body-unique judged a b ha hb = go a b (ha .same ∙ sym (hb .same)) (ha .begins) (hb .begins)
+  pub check-body-unique : (strictly judged : Bool) (a b : CheckedBody) → Checks strictly judged l a → Checks strictly judged l b → a ≡ b
+  check-body-unique strictly judged a b ha hb = go a b (ha .same ∙ sym (hb .same)) (ha .begins) (hb .begins)
     where
-      go : (a b : CheckedBody) → checkedGot a ≡ checkedGot b → Begins l a → Begins l b → a ≡ b
+      go : (a b : CheckedBody) → checkedGot a ≡ checkedGot b → Begins strictly l a → Begins strictly l b → a ≡ b
       go (CheckedBody.Body h m) (CheckedBody.Body g n) e p q =
           let w : h ≡ g = cc in
-          let z : m ≡ n = begin-unique h m n p (rw w q) in
+          let z : m ≡ n = begin-unique strictly h m n p (rw w q) in
           cc
       go (CheckedBody.Body h m) (CheckedBody.Refused x) e p q = never x h [] (sym e)
       go (CheckedBody.Refused x) (CheckedBody.Body h m) e p q = never x h [] e

@@ -5,7 +5,7 @@ use mathlib.Core.Bool.{Bool}
 use mathlib.Core.List.{List, []}
 use lib.ListN.{length, drop}
 use Rattle.formats.specs.Format.{Got, got, bad}
-use Rattle.fields.specs.Integers.{taken}
+use Rattle.fields.specs.Integers.{takenBy}
 use Rattle.framing.specs.Format.{summary}
 use Rattle.framing.specs.declared.BodyHead.{BodyHead}
 use Rattle.touch.specs.Touch.{touchHead, body}
@@ -126,15 +126,15 @@ checkedRefusal (CheckedBody.Body h at) = 0
 checkedRefusal (CheckedBody.Refused e) = e
 
 -- the frames begin at at
-pub record FramesAt (l : List ℕ) (h : BodyHead) (at : ℕ) : Type 0 where
-  pub head : touchHead taken .read l ≡ got h (drop at l)
+pub record FramesAt (strictly : Bool) (l : List ℕ) (h : BodyHead) (at : ℕ) : Type 0 where
+  pub head : touchHead (takenBy strictly) .read l ≡ got h (drop at l)
   pub inside : at ≤ length l
 
-abbrev pub Begins : List ℕ → CheckedBody → Type 0
-Begins l (CheckedBody.Body h at) = FramesAt l h at
-Begins l (CheckedBody.Refused e) = Unit {0}
+abbrev pub Begins : Bool → List ℕ → CheckedBody → Type 0
+Begins strictly l (CheckedBody.Body h at) = FramesAt strictly l h at
+Begins strictly l (CheckedBody.Refused e) = Unit {0}
 
 -- the answer for a body: of what is read all but the frames, and where they begin; nothing more of a refusal
-pub record Checks (judged : Bool) (l : List ℕ) (r : CheckedBody) : Type 0 where
-  pub same : checkedGot r ≡ summary (body taken judged l)
-  pub begins : Begins l r
+pub record Checks (strictly judged : Bool) (l : List ℕ) (r : CheckedBody) : Type 0 where
+  pub same : checkedGot r ≡ summary (body (takenBy strictly) judged l)
+  pub begins : Begins strictly l r

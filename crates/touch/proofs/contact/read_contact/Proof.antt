@@ -14,7 +14,7 @@ use Rattle.states.specs.Table.{listed}
 use Rattle.states.proofs.Rule.{listed-small}
 use Rattle.formats.specs.Format.{got, readByte}
 use Rattle.formats.proofs.Steps.{step, stop, Stepped, byte-step, byte-stop}
-use Rattle.fields.specs.Integers.{taken}
+use Rattle.fields.specs.Integers.{Integers, takenBy}
 use Rattle.touch.specs.Touch.{present, point, flags, optional, contact}
 use Rattle.touch.proofs.Reading.{passed}
 use Rattle.touch.proofs.contact.read_contact.Statement.{statement}
@@ -23,6 +23,9 @@ use Rattle.touch.proofs.contact.read_contact.Tie as tie
 -- what is lent, and where each field begins
 abbrev lent : tie.After-known-told → List ℕ
 lent c = now (c .before .before .before .before .before .before .before .args .rest)
+
+abbrev ints : tie.After-known-told → Integers
+ints c = takenBy (c .before .before .before .before .before .before .before .args .strictly)
 
 abbrev there : tie.After-known-told → ℕ
 there c = c .before .got-present .given .0 .0
@@ -54,21 +57,21 @@ short c = omega arith
 id-read : (c : tie.After-known-told) → readByte (lent c) ≡ got (getD (lent c) 0 0) (drop 1 (lent c))
 id-read c = byte-step (lent c) (omega (arith, c .before .before .before .before .before .if1 .left))
 
-present-read : (c : tie.After-known-told) → Stepped (present taken) (lent c) 1 (there c) (at-place c)
+present-read : (c : tie.After-known-told) → Stepped (present (ints c)) (lent c) 1 (there c) (at-place c)
 present-read c =
-    step (present taken) (lent c) 1 _ _ (omega (arith, c .before .before .before .before .before .if1 .left)) (rw (c .before .got-present .given .1) at (c .before .before .before .read-present .ensures))
+    step (present (ints c)) (lent c) 1 _ _ (omega (arith, c .before .before .before .before .before .if1 .left)) (rw (c .before .got-present .given .1) at (c .before .before .before .read-present .ensures))
 
-place-read : (c : tie.After-known-told2) → Stepped (point taken) (lent (up2 c)) (at-place (up2 c)) (c .before .got-place .given .0 .0) (at-flags c)
+place-read : (c : tie.After-known-told2) → Stepped (point (ints (up2 c))) (lent (up2 c)) (at-place (up2 c)) (c .before .got-place .given .0 .0) (at-flags c)
 place-read c =
-    step (point taken) (lent (up2 c)) (at-place (up2 c)) _ _ (present-read (up2 c) .ends) (rw (c .before .got-place .given .1) at (c .before .before .before .read-point .ensures))
+    step (point (ints (up2 c))) (lent (up2 c)) (at-place (up2 c)) _ _ (present-read (up2 c) .ends) (rw (c .before .got-place .given .1) at (c .before .before .before .read-point .ensures))
 
-flags-read : (c : tie.After-known-told3) → Stepped (flags taken) (lent (up2 (up3 c))) (at-flags (up3 c)) (c .before .got-flags .given .0 .0) (at-more c)
+flags-read : (c : tie.After-known-told3) → Stepped (flags (ints (up2 (up3 c)))) (lent (up2 (up3 c))) (at-flags (up3 c)) (c .before .got-flags .given .0 .0) (at-more c)
 flags-read c =
-    step (flags taken) (lent (up2 (up3 c))) (at-flags (up3 c)) _ _ (place-read (up3 c) .ends) (rw (c .before .got-flags .given .1) at (c .before .before .before .read-flags .ensures))
+    step (flags (ints (up2 (up3 c)))) (lent (up2 (up3 c))) (at-flags (up3 c)) _ _ (place-read (up3 c) .ends) (rw (c .before .got-flags .given .1) at (c .before .before .before .read-flags .ensures))
 
-more-read : (c : tie.After-known-told4) → Stepped (optional taken (there (up2 (up3 (up4 c))))) (lent (up2 (up3 (up4 c)))) (at-more (up4 c)) (c .before .got-more .given .0 .0) (at-end c)
+more-read : (c : tie.After-known-told4) → Stepped (optional (ints (up2 (up3 (up4 c)))) (there (up2 (up3 (up4 c))))) (lent (up2 (up3 (up4 c)))) (at-more (up4 c)) (c .before .got-more .given .0 .0) (at-end c)
 more-read c =
-    step (optional taken (there (up2 (up3 (up4 c))))) (lent (up2 (up3 (up4 c)))) (at-more (up4 c)) _ _ (flags-read (up4 c) .ends) (rw (c .before .got-more .given .1) at (c .before .before .before .read-optional .ensures))
+    step (optional (ints (up2 (up3 (up4 c)))) (there (up2 (up3 (up4 c))))) (lent (up2 (up3 (up4 c)))) (at-more (up4 c)) _ _ (flags-read (up4 c) .ends) (rw (c .before .got-more .given .1) at (c .before .before .before .read-optional .ensures))
 
 returns : tie.Need-returns
 unfolding contact
@@ -103,7 +106,7 @@ returns-2 c =
     let s = r .before .before in
     let l = now (s .before .before .args .rest) in
     let i = byte-step l (omega (arith, s .if1 .left)) in
-    let b = stop (present taken) l 1 _ _ (rw t at (r .read-present .ensures)) in
+    let b = stop (present (takenBy (s .before .before .args .strictly))) l 1 _ _ (rw t at (r .read-present .ensures)) in
     record { same = rw (c .refusal .ensures, t, i, b); inside = omega arith }
 
 add-at-place : tie.Need-add-at-place
@@ -136,7 +139,7 @@ returns-3 c =
     let t = c .before .enum-told2 .given .1 in
     let r = c .before .before .before in
     let k = r .before .before in
-    let b = stop (point taken) (lent k) (at-place k) _ _ (rw t at (r .read-point .ensures)) in
+    let b = stop (point (ints k)) (lent k) (at-place k) _ _ (rw t at (r .read-point .ensures)) in
     record { same = rw (c .refusal2 .ensures, t, id-read k, present-read k .reads, b); inside = omega arith }
 
 add-at-flags : tie.Need-add-at-flags
@@ -169,7 +172,7 @@ returns-4 c =
     let t = c .before .enum-told3 .given .1 in
     let r = c .before .before .before in
     let k = r .before .before in
-    let b = stop (flags taken) (lent (up2 k)) (at-flags k) _ _ (rw t at (r .read-flags .ensures)) in
+    let b = stop (flags (ints (up2 k))) (lent (up2 k)) (at-flags k) _ _ (rw t at (r .read-flags .ensures)) in
     record { same = rw (c .refusal3 .ensures, t, id-read (up2 k), present-read (up2 k) .reads, place-read k .reads, b); inside = omega arith }
 
 add-at-more : tie.Need-add-at-more
@@ -203,26 +206,26 @@ returns-5 c =
     let r = c .before .before .before in
     let k = r .before .before in
     let j = up2 (up3 k) in
-    let b = stop (optional taken (there j)) (lent j) (at-more k) _ _ (rw t at (r .read-optional .ensures)) in
+    let b = stop (optional (ints j) (there j)) (lent j) (at-more k) _ _ (rw t at (r .read-optional .ensures)) in
     record { same = rw (c .refusal4 .ensures, t, id-read j, present-read j .reads, place-read (up3 k) .reads, flags-read k .reads, b); inside = omega arith }
-
-cast-t37 : tie.Need-cast-t37
-cast-t37 c =
-    let k = up4 (c .before) in
-    let j = up2 (up3 k) in
-    omega (arith, listed-small _ (passed (taken .u4) listed badFlags (lent j) (at-flags (up3 k)) _ _ (flags-read k)))
 
 cast-t38 : tie.Need-cast-t38
 cast-t38 c =
+    let k = up4 (c .before) in
+    let j = up2 (up3 k) in
+    omega (arith, listed-small _ (passed (ints j .u4) listed badFlags (lent j) (at-flags (up3 k)) _ _ (flags-read k)))
+
+cast-t39 : tie.Need-cast-t39
+cast-t39 c =
     let j = up2 (up3 (up4 (c .before))) in
-    let p = passed (taken .u2) (λ p. ltb p 8) badField (lent j) 1 _ _ (present-read j) in
+    let p = passed (ints j .u2) (λ p. ltb p 8) badField (lent j) 1 _ _ (present-read j) in
     omega (arith, ltb-true)
 
-shared-slice-read-t40 : tie.Need-shared-slice-read-t40
-shared-slice-read-t40 c = omega (arith, up2 (up3 (up4 (c .before .before))) .before .before .before .before .before .if1 .left)
+shared-slice-read-t41 : tie.Need-shared-slice-read-t41
+shared-slice-read-t41 c = omega (arith, up2 (up3 (up4 (c .before .before))) .before .before .before .before .before .if1 .left)
 
-add-t19 : tie.Need-add-t19
-add-t19 c =
+add-t20 : tie.Need-add-t20
+add-t20 c =
     let k = c .before .before in
     omega (arith, more-read k .ends, short (up2 (up3 (up4 k))))
 
@@ -276,8 +279,8 @@ read-contact-spec =
     enum-told-4
     refusal-requires-4
     returns-5
-    cast-t37
     cast-t38
-    shared-slice-read-t40
-    add-t19
+    cast-t39
+    shared-slice-read-t41
+    add-t20
     returns-6)

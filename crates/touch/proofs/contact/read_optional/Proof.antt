@@ -9,7 +9,7 @@ use denote.Ref.{now}
 use Rattle.formats.specs.Format.{when}
 use Rattle.paper.specs.Refusals.{badRange}
 use Rattle.formats.proofs.Steps.{step, stop, Stepped}
-use Rattle.fields.specs.Integers.{taken}
+use Rattle.fields.specs.Integers.{Integers, takenBy}
 use Rattle.house.specs.Fits.{noSides}
 use Rattle.house.specs.WellFormed.{has, orientationMost, pressureMost}
 use Rattle.touch.specs.Touch.{sides, orientation, pressure, optional}
@@ -20,6 +20,9 @@ use Rattle.touch.proofs.contact.read_optional.Tie as tie
 -- what is lent, the fields that are there, and where each part begins
 abbrev lent : tie.After-known-told → List ℕ
 lent c = now (c .before .before .before .before .before .before .args .rest)
+
+abbrev ints : tie.After-known-told → Integers
+ints c = takenBy (c .before .before .before .before .before .before .args .strictly)
 
 abbrev there : tie.After-known-told → ℕ
 there c = c .before .before .before .before .before .before .args .present
@@ -39,20 +42,20 @@ up3 c = c .before .before .before .before .before .before
 abbrev at-end : tie.After-known-told3 → ℕ
 at-end c = at-press (up3 c) + c .before .got-press .given .0 .1 .0
 
-sides-read : (c : tie.After-known-told) → Stepped (when (has 1 (there c)) (sides taken) noSides) (lent c) 0 (c .before .got-sides .given .0 .0) (at-turn c)
+sides-read : (c : tie.After-known-told) → Stepped (when (has 1 (there c)) (sides (ints c)) noSides) (lent c) 0 (c .before .got-sides .given .0 .0) (at-turn c)
 sides-read c =
     let r = c .before .before .before in
-    first (when (has 1 (there c)) (sides taken) noSides) (lent c) _ _ (rw (c .before .got-sides .given .1, r .before .has-field .ensures) at (r .read-sides .ensures))
+    first (when (has 1 (there c)) (sides (ints c)) noSides) (lent c) _ _ (rw (c .before .got-sides .given .1, r .before .has-field .ensures) at (r .read-sides .ensures))
 
-turn-read : (c : tie.After-known-told2) → Stepped (when (has 2 (there (up2 c))) (orientation taken) 0) (lent (up2 c)) (at-turn (up2 c)) (c .before .got-turn .given .0 .0) (at-press c)
+turn-read : (c : tie.After-known-told2) → Stepped (when (has 2 (there (up2 c))) (orientation (ints (up2 c))) 0) (lent (up2 c)) (at-turn (up2 c)) (c .before .got-turn .given .0 .0) (at-press c)
 turn-read c =
     let r = c .before .before .before in
-    step (when (has 2 (there (up2 c))) (orientation taken) 0) (lent (up2 c)) (at-turn (up2 c)) _ _ (sides-read (up2 c) .ends) (rw (c .before .got-turn .given .1, r .before .has-field2 .ensures) at (r .read-up-to .ensures))
+    step (when (has 2 (there (up2 c))) (orientation (ints (up2 c))) 0) (lent (up2 c)) (at-turn (up2 c)) _ _ (sides-read (up2 c) .ends) (rw (c .before .got-turn .given .1, r .before .has-field2 .ensures) at (r .read-up-to .ensures))
 
-press-read : (c : tie.After-known-told3) → Stepped (when (has 4 (there (up2 (up3 c)))) (pressure taken) 0) (lent (up2 (up3 c))) (at-press (up3 c)) (c .before .got-press .given .0 .0) (at-end c)
+press-read : (c : tie.After-known-told3) → Stepped (when (has 4 (there (up2 (up3 c)))) (pressure (ints (up2 (up3 c)))) 0) (lent (up2 (up3 c))) (at-press (up3 c)) (c .before .got-press .given .0 .0) (at-end c)
 press-read c =
     let r = c .before .before .before in
-    step (when (has 4 (there (up2 (up3 c)))) (pressure taken) 0) (lent (up2 (up3 c))) (at-press (up3 c)) _ _ (turn-read (up3 c) .ends) (rw (c .before .got-press .given .1, r .before .has-field3 .ensures) at (r .read-up-to2 .ensures))
+    step (when (has 4 (there (up2 (up3 c)))) (pressure (ints (up2 (up3 c)))) 0) (lent (up2 (up3 c))) (at-press (up3 c)) _ _ (turn-read (up3 c) .ends) (rw (c .before .got-press .given .1, r .before .has-field3 .ensures) at (r .read-up-to2 .ensures))
 
 has-field-requires : tie.Need-has-field-requires
 has-field-requires c κs = search needs
@@ -107,7 +110,7 @@ returns-2 c =
     let t = c .before .enum-told2 .given .1 in
     let r = c .before .before .before in
     let k = r .before .before .before in
-    let b = stop (when (has 2 (there k)) (orientation taken) 0) (lent k) (at-turn k) _ _ (rw (t, r .before .has-field2 .ensures) at (r .read-up-to .ensures)) in
+    let b = stop (when (has 2 (there k)) (orientation (ints k)) 0) (lent k) (at-turn k) _ _ (rw (t, r .before .has-field2 .ensures) at (r .read-up-to .ensures)) in
     record { same = rw (c .refusal2 .ensures, t, sides-read k .reads, b); inside = omega arith }
 
 add-at-press : tie.Need-add-at-press
@@ -143,21 +146,21 @@ returns-3 c =
     let t = c .before .enum-told3 .given .1 in
     let r = c .before .before .before in
     let k = r .before .before .before in
-    let b = stop (when (has 4 (there (up2 k))) (pressure taken) 0) (lent (up2 k)) (at-press k) _ _ (rw (t, r .before .has-field3 .ensures) at (r .read-up-to2 .ensures)) in
+    let b = stop (when (has 4 (there (up2 k))) (pressure (ints (up2 k))) 0) (lent (up2 k)) (at-press k) _ _ (rw (t, r .before .has-field3 .ensures) at (r .read-up-to2 .ensures)) in
     record { same = rw (c .refusal3 .ensures, t, sides-read (up2 k) .reads, turn-read k .reads, b); inside = omega arith }
-
-cast-t25 : tie.Need-cast-t25
-cast-t25 c =
-    let k = up3 c in
-    omega (arith, within (taken .u4) orientationMost badRange (has 2 (there (up2 k))) (lent (up2 k)) (at-turn (up2 k)) _ _ (turn-read k))
 
 cast-t26 : tie.Need-cast-t26
 cast-t26 c =
-    let k = up2 (up3 c) in
-    omega (arith, within (taken .u4) pressureMost badRange (has 4 (there k)) (lent k) (at-press (up3 c)) _ _ (press-read c))
+    let k = up3 c in
+    omega (arith, within (ints (up2 k) .u4) orientationMost badRange (has 2 (there (up2 k))) (lent (up2 k)) (at-turn (up2 k)) _ _ (turn-read k))
 
-add-t17 : tie.Need-add-t17
-add-t17 c = omega (arith, press-read c .ends)
+cast-t27 : tie.Need-cast-t27
+cast-t27 c =
+    let k = up2 (up3 c) in
+    omega (arith, within (ints k .u4) pressureMost badRange (has 4 (there k)) (lent k) (at-press (up3 c)) _ _ (press-read c))
+
+add-t18 : tie.Need-add-t18
+add-t18 c = omega (arith, press-read c .ends)
 
 returns-4 : tie.Need-returns-4
 unfolding optional
@@ -196,7 +199,7 @@ read-optional-spec =
     enum-told-3
     refusal-requires-3
     returns-3
-    cast-t25
     cast-t26
-    add-t17
+    cast-t27
+    add-t18
     returns-4)

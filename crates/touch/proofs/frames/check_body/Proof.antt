@@ -12,7 +12,7 @@ use Rattle.paper.specs.Refusals.{trailing}
 use Rattle.formats.specs.Format.{Format, andThen, ended, series}
 use Rattle.formats.specs.Answer.{skip}
 use Rattle.formats.proofs.Steps.{step, stop, Stepped, ended-bad, ended-got}
-use Rattle.fields.specs.Integers.{taken}
+use Rattle.fields.specs.Integers.{Integers, takenBy}
 use Rattle.framing.specs.Format.{bodyFormat, summary}
 use Rattle.framing.specs.declared.BodyHead.{BodyHead}
 use Rattle.touch.specs.Touch.{frame, touchHead, body, contact}
@@ -25,6 +25,9 @@ use Rattle.touch.proofs.frames.check_body.Tie as tie
 -- what is lent, the head, and where the frames begin and end
 abbrev lent : tie.After-known-told → List ℕ
 lent c = now (c .before .before .before .before .before .args .rest)
+
+abbrev ints : tie.After-known-told → Integers
+ints c = takenBy (c .before .before .before .before .before .args .strictly)
 
 abbrev judged : tie.After-known-told → Bool
 judged c = c .before .before .before .before .before .args .judged
@@ -43,18 +46,18 @@ at-end c = at (up c) + c .before .got-end .given .0 .0
 
 -- as many frames as the head says
 abbrev frames : tie.After-known-told → Format (Unit {0})
-frames c = skip (series (frame taken) (judged c) (head c .frames))
+frames c = skip (series (frame (ints c)) (judged c) (head c .frames))
 
-head-read : (c : tie.After-known-told) → Stepped (touchHead taken) (lent c) 0 (head c) (at c)
-head-read c = first (touchHead taken) (lent c) _ _ (rw (c .before .got-head .given .1) at (c .before .before .before .read-touch-head .ensures))
+head-read : (c : tie.After-known-told) → Stepped (touchHead (ints c)) (lent c) 0 (head c) (at c)
+head-read c = first (touchHead (ints c)) (lent c) _ _ (rw (c .before .got-head .given .1) at (c .before .before .before .read-touch-head .ensures))
 
 frames-read : (c : tie.After-known-told2) → Stepped (frames (up c)) (lent (up c)) (at (up c)) tt (at-end c)
 frames-read c = step (frames (up c)) (lent (up c)) (at (up c)) _ _ (head-read (up c) .ends) (rw (c .before .got-end .given .1) at (c .before .before .before .skip-frames .ensures))
 
 -- what is left of the body is whether bytes are left
-left : (c : tie.After-known-told2) → summary (body taken (judged (up c)) (lent (up c))) ≡ ended trailing (head (up c)) (drop (at-end c) (lent (up c)))
+left : (c : tie.After-known-told2) → summary (body (ints (up c)) (judged (up c)) (lent (up c))) ≡ ended trailing (head (up c)) (drop (at-end c) (lent (up c)))
 left c =
-    body-end taken touchLimits (contact taken) (judged (up c)) (lent (up c)) (head (up c)) _ (head-read (up c) .reads) ∙ ap (λ x. andThen x (λ a u. ended trailing (head (up c)) u)) (frames-read c .reads)
+    body-end (ints (up c)) touchLimits (contact (ints (up c))) (judged (up c)) (lent (up c)) (head (up c)) _ (head-read (up c) .reads) ∙ ap (λ x. andThen x (λ a u. ended trailing (head (up c)) u)) (frames-read c .reads)
 
 read-touch-head-requires : tie.Need-read-touch-head-requires
 read-touch-head-requires c κs = search needs
@@ -105,7 +108,7 @@ returns-2 c =
     let r = c .before .before .before in
     let k = r .before .before .before in
     let b = stop (frames k) (lent k) (at k) _ _ (rw t at (r .skip-frames .ensures)) in
-    record { same = rw (c .refusal2 .ensures, t) (sym (body-end taken touchLimits (contact taken) (judged k) (lent k) (head k) _ (head-read k .reads) ∙ rw b)); begins = tt }
+    record { same = rw (c .refusal2 .ensures, t) (sym (body-end (ints k) touchLimits (contact (ints k)) (judged k) (lent k) (head k) _ (head-read k .reads) ∙ rw b)); begins = tt }
 
 add-if1 : tie.Need-add-if1
 add-if1 c = omega (arith, frames-read c .ends)

@@ -11,8 +11,8 @@ use Rattle.touch.proofs.Reading.{test-before, test-holds, test-fails}
 use Rattle.touch.proofs.frames.read_count.Statement.{statement}
 use Rattle.touch.proofs.frames.read_count.Tie as tie
 
-read-u2-requires : tie.Need-read-u2-requires
-read-u2-requires c κs = search needs
+read-u2-by-requires : tie.Need-read-u2-by-requires
+read-u2-by-requires c κs = search needs
 
 enum-known-got : tie.Need-enum-known-got
 enum-known-got c = search needs
@@ -24,27 +24,27 @@ returns : tie.Need-returns
 returns c =
     let r = c .before .before in
     let a = r .before .before .args in
-    test-before 1 (λ n. leb n (a .most)) badCount (now (a .rest)) _ (r .read-u2 .ensures) _ (ap u2Of (c .enum-told .given .1))
+    test-before _ 1 (λ n. leb n (a .most)) badCount (now (a .rest)) _ (r .read-u2-by .ensures) _ (ap u2Of (c .enum-told .given .1))
 
 returns-2 : tie.Need-returns-2
 returns-2 c =
     let k = c .before .before in
     let r = k .before .before in
     let a = r .before .before .args in
-    test-fails 1 (λ n. leb n (a .most)) badCount (now (a .rest)) _ (r .read-u2 .ensures) _ _ _ (ap u2Of (k .got .given .1)) (lt-leb _ _ (c .if1 .taken))
+    test-fails _ 1 (λ n. leb n (a .most)) badCount (now (a .rest)) _ (r .read-u2-by .ensures) _ _ _ (ap u2Of (k .got .given .1)) (lt-leb _ _ (c .if1 .taken))
 
 returns-3 : tie.Need-returns-3
 returns-3 c =
     let k = c .before .before in
     let r = k .before .before in
     let a = r .before .before .args in
-    test-holds 1 (λ n. leb n (a .most)) badCount (now (a .rest)) _ (r .read-u2 .ensures) _ _ _ (ap u2Of (k .got .given .1)) (le-leb _ _ (c .if1 .left))
+    test-holds _ 1 (λ n. leb n (a .most)) badCount (now (a .rest)) _ (r .read-u2-by .ensures) _ _ _ (ap u2Of (k .got .given .1)) (le-leb _ _ (c .if1 .left))
 
 pub read-count-spec : {M : Type 1} → statement M
 read-count-spec =
     tie.close
     (tie.spec
-    read-u2-requires
+    read-u2-by-requires
     enum-known-got
     enum-told
     returns

@@ -8,7 +8,7 @@ use native.Mathlib.Omega.{arith}
 use denote.Ref.{now}
 use mathlib.Core.Bool.{Bool}
 use Rattle.formats.proofs.Steps.{step, stop, Stepped}
-use Rattle.fields.specs.Integers.{taken}
+use Rattle.fields.specs.Integers.{Integers, takenBy}
 use Rattle.touch.specs.Limits.{mostContacts}
 use Rattle.framing.specs.Format.{frameHeadFormat, countTo, offset}
 use Rattle.touch.proofs.Reading.{first}
@@ -18,6 +18,9 @@ use Rattle.touch.proofs.frames.read_frame_head.Tie as tie
 -- what is lent, and where the offset and the head's end are
 abbrev lent : tie.After-known-told → List ℕ
 lent c = now (c .before .before .before .before .before .args .rest)
+
+abbrev ints : tie.After-known-told → Integers
+ints c = takenBy (c .before .before .before .before .before .args .strictly)
 
 abbrev judged : tie.After-known-told → Bool
 judged c = c .before .before .before .before .before .args .judged
@@ -31,12 +34,12 @@ up c = c .before .before .before .before .before
 abbrev at-end : tie.After-known-told2 → ℕ
 at-end c = at-offset (up c) + c .before .got-offset .given .0 .1 .0
 
-count-read : (c : tie.After-known-told) → Stepped (countTo taken mostContacts) (lent c) 0 (c .before .got-count .given .0 .0) (at-offset c)
-count-read c = first (countTo taken mostContacts) (lent c) _ _ (rw (c .before .got-count .given .1) at (c .before .before .before .read-count .ensures))
+count-read : (c : tie.After-known-told) → Stepped (countTo (ints c) mostContacts) (lent c) 0 (c .before .got-count .given .0 .0) (at-offset c)
+count-read c = first (countTo (ints c) mostContacts) (lent c) _ _ (rw (c .before .got-count .given .1) at (c .before .before .before .read-count .ensures))
 
-offset-read : (c : tie.After-known-told2) → Stepped (offset taken (judged (up c))) (lent (up c)) (at-offset (up c)) (c .before .got-offset .given .0 .0) (at-end c)
+offset-read : (c : tie.After-known-told2) → Stepped (offset (ints (up c)) (judged (up c))) (lent (up c)) (at-offset (up c)) (c .before .got-offset .given .0 .0) (at-end c)
 offset-read c =
-    step (offset taken (judged (up c))) (lent (up c)) (at-offset (up c)) _ _ (count-read (up c) .ends) (rw (c .before .got-offset .given .1) at (c .before .before .before .read-offset .ensures))
+    step (offset (ints (up c)) (judged (up c))) (lent (up c)) (at-offset (up c)) _ _ (count-read (up c) .ends) (rw (c .before .got-offset .given .1) at (c .before .before .before .read-offset .ensures))
 
 read-count-requires : tie.Need-read-count-requires
 read-count-requires c κs = search needs
@@ -84,11 +87,11 @@ returns-2 c =
     let t = c .before .enum-told2 .given .1 in
     let r = c .before .before .before in
     let k = r .before .before in
-    let b = stop (offset taken (judged k)) (lent k) (at-offset k) _ _ (rw t at (r .read-offset .ensures)) in
+    let b = stop (offset (ints k) (judged k)) (lent k) (at-offset k) _ _ (rw t at (r .read-offset .ensures)) in
     record { same = rw (c .refusal2 .ensures, t, count-read k .reads, b); inside = omega arith }
 
-add-t12 : tie.Need-add-t12
-add-t12 c = omega (arith, offset-read c .ends)
+add-t13 : tie.Need-add-t13
+add-t13 c = omega (arith, offset-read c .ends)
 
 returns-3 : tie.Need-returns-3
 unfolding frameHeadFormat
@@ -111,5 +114,5 @@ read-frame-head-spec =
     enum-told-2
     refusal-requires-2
     returns-2
-    add-t12
+    add-t13
     returns-3)

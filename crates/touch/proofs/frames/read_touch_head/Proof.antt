@@ -10,7 +10,7 @@ use borrow.Author.Tests.{leb-true}
 use lib.Dec.{leb}
 use Rattle.paper.specs.Refusals.{badCount}
 use Rattle.formats.proofs.Steps.{step, stop, Stepped}
-use Rattle.fields.specs.Integers.{taken}
+use Rattle.fields.specs.Integers.{Integers, takenBy}
 use Rattle.fields.proofs.Answers.{u4-answers}
 use Rattle.framing.specs.Format.{bodyHeadFormat, countTo}
 use Rattle.touch.specs.Limits.{mostFrames}
@@ -22,6 +22,9 @@ use Rattle.touch.proofs.frames.read_touch_head.Tie as tie
 abbrev lent : tie.After-known-told → List ℕ
 lent c = now (c .before .before .before .before .before .args .rest)
 
+abbrev ints : tie.After-known-told → Integers
+ints c = takenBy (c .before .before .before .before .before .args .strictly)
+
 abbrev at-count : tie.After-known-told → ℕ
 at-count c = c .before .got-time .given .0 .1 .0
 
@@ -31,17 +34,17 @@ up c = c .before .before .before .before .before
 abbrev at-end : tie.After-known-told2 → ℕ
 at-end c = at-count (up c) + c .before .got-count .given .0 .1 .0
 
-time-read : (c : tie.After-known-told) → Stepped (taken .u4) (lent c) 0 (c .before .got-time .given .0 .0) (at-count c)
+time-read : (c : tie.After-known-told) → Stepped (ints c .u4) (lent c) 0 (c .before .got-time .given .0 .0) (at-count c)
 time-read c =
     let r = c .before .before .before in
-    first (taken .u4) (lent c) _ _ (rw (c .before .got-time .given .1) at (u4-answers (lent c) (r .read-u4 .result) (r .read-u4 .ensures)))
+    first (ints c .u4) (lent c) _ _ (rw (c .before .got-time .given .1) at (u4-answers _ (lent c) (r .read-u4-by .result) (r .read-u4-by .ensures)))
 
-count-read : (c : tie.After-known-told2) → Stepped (countTo taken mostFrames) (lent (up c)) (at-count (up c)) (c .before .got-count .given .0 .0) (at-end c)
+count-read : (c : tie.After-known-told2) → Stepped (countTo (ints (up c)) mostFrames) (lent (up c)) (at-count (up c)) (c .before .got-count .given .0 .0) (at-end c)
 count-read c =
-    step (countTo taken mostFrames) (lent (up c)) (at-count (up c)) _ _ (time-read (up c) .ends) (rw (c .before .got-count .given .1) at (c .before .before .before .read-count .ensures))
+    step (countTo (ints (up c)) mostFrames) (lent (up c)) (at-count (up c)) _ _ (time-read (up c) .ends) (rw (c .before .got-count .given .1) at (c .before .before .before .read-count .ensures))
 
-read-u4-requires : tie.Need-read-u4-requires
-read-u4-requires c κs = search needs
+read-u4-by-requires : tie.Need-read-u4-by-requires
+read-u4-by-requires c κs = search needs
 
 enum-known-got-time : tie.Need-enum-known-got-time
 enum-known-got-time c = search needs
@@ -57,7 +60,7 @@ unfolding bodyHeadFormat
 returns c =
     let t = c .before .enum-told .given .1 in
     let r = c .before .before .before in
-    let w = rw t at (u4-answers (now (r .before .before .args .rest)) (r .read-u4 .result) (r .read-u4 .ensures)) in
+    let w = rw t at (u4-answers _ (now (r .before .before .args .rest)) (r .read-u4-by .result) (r .read-u4-by .ensures)) in
     record { same = rw (c .refusal .ensures, t, sym (w .same)); inside = omega arith }
 
 sub-read-count : tie.Need-sub-read-count
@@ -87,12 +90,12 @@ returns-2 c =
     let t = c .before .enum-told2 .given .1 in
     let r = c .before .before .before in
     let k = r .before .before in
-    let b = stop (countTo taken mostFrames) (lent k) (at-count k) _ _ (rw t at (r .read-count .ensures)) in
+    let b = stop (countTo (ints k) mostFrames) (lent k) (at-count k) _ _ (rw t at (r .read-count .ensures)) in
     record { same = rw (c .refusal2 .ensures, t, time-read k .reads, b); inside = omega arith }
 
 cast-frames : tie.Need-cast-frames
 cast-frames c =
-    let n = passed (taken .u2) (λ n. leb n mostFrames) badCount (lent (up c)) (at-count (up c)) _ _ (count-read c) in
+    let n = passed (ints (up c) .u2) (λ n. leb n mostFrames) badCount (lent (up c)) (at-count (up c)) _ _ (count-read c) in
     omega (arith, leb-true)
 
 add-end : tie.Need-add-end
@@ -106,7 +109,7 @@ pub read-touch-head-spec : {M : Type 1} → statement M
 read-touch-head-spec =
     tie.close
     (tie.spec
-    read-u4-requires
+    read-u4-by-requires
     enum-known-got-time
     enum-told
     refusal-requires

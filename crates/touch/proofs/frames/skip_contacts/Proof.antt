@@ -9,26 +9,27 @@ use lib.ListN.{length, drop}
 use Rattle.formats.specs.Format.{readSeries}
 use Rattle.formats.specs.Answer.{skipped}
 use Rattle.formats.proofs.Steps.{step, stop, Stepped, series-end, series-got, series-bad}
-use Rattle.fields.specs.Integers.{taken}
+use Rattle.fields.specs.Integers.{takenBy}
 use Rattle.touch.specs.Touch.{contact}
 use Rattle.touch.proofs.frames.skip_contacts.Statement.{statement}
 use Rattle.touch.proofs.frames.skip_contacts.Tie as tie
 
 abbrev Inv-loop : tie.InvT-loop
-Inv-loop rest n at₀ left₀ at left =
-    (at ≤ length rest) × (skipped (readSeries (λ b. contact taken .read) false left (drop at rest)) ≡ skipped (readSeries (λ b. contact taken .read) false n rest))
+Inv-loop rest n strictly at₀ left₀ at left =
+    (at ≤ length rest)
+    × (skipped (readSeries (λ b. contact (takenBy strictly) .read) false left (drop at rest)) ≡ skipped (readSeries (λ b. contact (takenBy strictly) .read) false n rest))
 
 abbrev μ-loop : tie.MeasureT-loop
-μ-loop rest n at₀ left₀ at left = left
+μ-loop rest n strictly at₀ left₀ at left = left
 
 -- the contact of this turn
 one : (c : tie.After-known-told Inv-loop μ-loop) →
     let p = c .before .before .before .before .before .before in
-    Stepped (contact taken) (p .before .before .args .rest .now) (p .loop .at) (c .before .got .given .0 .0) (p .loop .at + c .before .got .given .0 .1 .0)
+    Stepped (contact (takenBy (p .before .before .args .strictly))) (p .before .before .args .rest .now) (p .loop .at) (c .before .got .given .0 .0) (p .loop .at + c .before .got .given .0 .1 .0)
 one c =
     let r = c .before .before .before in
     let p = r .before .before .before in
-    step (contact taken) (p .before .before .args .rest .now) (p .loop .at) _ _ (p .loop .inv .0) (rw (c .before .got .given .1) at (r .read-contact .ensures))
+    step (contact (takenBy (p .before .before .args .strictly))) (p .before .before .args .rest .now) (p .loop .at) _ _ (p .loop .inv .0) (rw (c .before .got .given .1) at (r .read-contact .ensures))
 
 loop-holds : tie.Need-loop-holds Inv-loop μ-loop
 loop-holds c = (omega arith, refl)
@@ -59,9 +60,9 @@ returns c =
     let r = c .before .before .before in
     let p = r .before .before .before in
     let t = c .before .enum-told .given .1 in
-    let b = stop (contact taken) (p .before .before .args .rest .now) (p .loop .at) _ _ (rw t at (r .read-contact .ensures)) in
+    let b = stop (contact (takenBy (p .before .before .args .strictly))) (p .before .before .args .rest .now) (p .loop .at) _ _ (rw t at (r .read-contact .ensures)) in
     record {
-      same = rw (c .refusal .ensures, t) (sym (ap skipped (series-bad (λ b. contact taken .read) false (p .loop .left) _ _ (r .before .before .loop-test .taken) b)) ∙ p .loop .inv .1);
+      same = rw (c .refusal .ensures, t) (sym (ap skipped (series-bad (λ b. contact (takenBy (p .before .before .args .strictly)) .read) false (p .loop .left) _ _ (r .before .before .loop-test .taken) b)) ∙ p .loop .inv .1);
       inside = omega arith;
     }
 
@@ -78,13 +79,13 @@ loop-again : tie.Need-loop-again Inv-loop μ-loop
 loop-again c =
     let r = c .before .before .before in
     let p = r .before .before .before in
-    (one c .ends, sym (series-got (λ b. contact taken .read) false (p .loop .left) _ _ _ (r .before .before .loop-test .taken) (one c .reads)) ∙ p .loop .inv .1)
+    (one c .ends, sym (series-got (λ b. contact (takenBy (p .before .before .args .strictly)) .read) false (p .loop .left) _ _ _ (r .before .before .loop-test .taken) (one c .reads)) ∙ p .loop .inv .1)
 
 returns-2 : tie.Need-returns-2 Inv-loop μ-loop
 returns-2 c =
     let p = c .before in
     record {
-      same = sym (ap skipped (series-end (λ b. contact taken .read) false (p .loop .left) _ (c .loop-test .left))) ∙ p .loop .inv .1;
+      same = sym (ap skipped (series-end (λ b. contact (takenBy (p .before .before .args .strictly)) .read) false (p .loop .left) _ (c .loop-test .left))) ∙ p .loop .inv .1;
       inside = p .loop .inv .0;
     }
 

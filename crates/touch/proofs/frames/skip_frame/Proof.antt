@@ -10,7 +10,7 @@ use mathlib.Core.Bool.{Bool}
 use Rattle.formats.specs.Format.{times}
 use Rattle.formats.specs.Answer.{skip}
 use Rattle.formats.proofs.Steps.{step, stop, Stepped}
-use Rattle.fields.specs.Integers.{taken}
+use Rattle.fields.specs.Integers.{Integers, takenBy}
 use Rattle.framing.specs.Format.{frameFormat}
 use Rattle.house.specs.declared.Head.{Head}
 use Rattle.touch.specs.Touch.{contact, frameHead}
@@ -23,6 +23,9 @@ use Rattle.touch.proofs.frames.skip_frame.Tie as tie
 -- what is lent, the head, and where the contacts begin and end
 abbrev lent : tie.After-known-told → List ℕ
 lent c = now (c .before .before .before .before .before .args .rest)
+
+abbrev ints : tie.After-known-told → Integers
+ints c = takenBy (c .before .before .before .before .before .args .strictly)
 
 abbrev judged : tie.After-known-told → Bool
 judged c = c .before .before .before .before .before .args .judged
@@ -39,12 +42,12 @@ up c = c .before .before .before .before .before .before
 abbrev at-end : tie.After-known-told2 → ℕ
 at-end c = at (up c) + c .before .got-end .given .0 .0
 
-head-read : (c : tie.After-known-told) → Stepped (frameHead taken (judged c)) (lent c) 0 (head c) (at c)
-head-read c = first (frameHead taken (judged c)) (lent c) _ _ (rw (c .before .got-head .given .1) at (c .before .before .before .read-frame-head .ensures))
+head-read : (c : tie.After-known-told) → Stepped (frameHead (ints c) (judged c)) (lent c) 0 (head c) (at c)
+head-read c = first (frameHead (ints c) (judged c)) (lent c) _ _ (rw (c .before .got-head .given .1) at (c .before .before .before .read-frame-head .ensures))
 
-contacts-read : (c : tie.After-known-told2) → Stepped (skip (times (head (up c) .count) (contact taken))) (lent (up c)) (at (up c)) tt (at-end c)
+contacts-read : (c : tie.After-known-told2) → Stepped (skip (times (head (up c) .count) (contact (ints (up c))))) (lent (up c)) (at (up c)) tt (at-end c)
 contacts-read c =
-    step (skip (times (head (up c) .count) (contact taken))) (lent (up c)) (at (up c)) _ _ (head-read (up c) .ends) (rw (c .before .got-end .given .1) at (c .before .before .before .skip-contacts .ensures))
+    step (skip (times (head (up c) .count) (contact (ints (up c))))) (lent (up c)) (at (up c)) _ _ (head-read (up c) .ends) (rw (c .before .got-end .given .1) at (c .before .before .before .skip-contacts .ensures))
 
 read-frame-head-requires : tie.Need-read-frame-head-requires
 read-frame-head-requires c κs = search needs
@@ -91,16 +94,16 @@ returns-2 c =
     let t = c .enum-told2 .given .1 in
     let r = c .before .before in
     let k = r .before .before .before in
-    let b = stop (skip (times (head k .count) (contact taken))) (lent k) (at k) _ _ (rw t at (r .skip-contacts .ensures)) in
-    record { same = rw t (sym (frame-end taken touchLimits (contact taken) (judged k) (lent k) (head k) _ (head-read k .reads) ∙ b)); inside = rw t (omega arith) }
+    let b = stop (skip (times (head k .count) (contact (ints k)))) (lent k) (at k) _ _ (rw t at (r .skip-contacts .ensures)) in
+    record { same = rw t (sym (frame-end (ints k) touchLimits (contact (ints k)) (judged k) (lent k) (head k) _ (head-read k .reads) ∙ b)); inside = rw t (omega arith) }
 
-add-t10 : tie.Need-add-t10
-add-t10 c = omega (arith, contacts-read c .ends)
+add-t11 : tie.Need-add-t11
+add-t11 c = omega (arith, contacts-read c .ends)
 
 returns-3 : tie.Need-returns-3
 returns-3 c =
     let k = up c in
-    record { same = sym (frame-end taken touchLimits (contact taken) (judged k) (lent k) (head k) _ (head-read k .reads) ∙ contacts-read c .reads); inside = contacts-read c .ends }
+    record { same = sym (frame-end (ints k) touchLimits (contact (ints k)) (judged k) (lent k) (head k) _ (head-read k .reads) ∙ contacts-read c .reads); inside = contacts-read c .ends }
 
 pub skip-frame-spec : {M : Type 1} → statement M
 skip-frame-spec =
@@ -119,5 +122,5 @@ skip-frame-spec =
     enum-known-got-end
     enum-told-2
     returns-2
-    add-t10
+    add-t11
     returns-3)

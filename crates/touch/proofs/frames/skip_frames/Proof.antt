@@ -8,26 +8,26 @@ use lib.ListN.{length, drop}
 use Rattle.formats.specs.Format.{readSeries}
 use Rattle.formats.specs.Answer.{skip, skipped}
 use Rattle.formats.proofs.Steps.{step, stop, Stepped, series-end, series-got, series-bad, series-skip}
-use Rattle.fields.specs.Integers.{taken}
+use Rattle.fields.specs.Integers.{takenBy}
 use Rattle.touch.specs.Touch.{frame}
 use Rattle.touch.proofs.frames.skip_frames.Statement.{statement}
 use Rattle.touch.proofs.frames.skip_frames.Tie as tie
 
 abbrev Inv-loop : tie.InvT-loop
-Inv-loop rest n judged at₀ left₀ first₀ at left first =
-    (at ≤ length rest) × (skipped (readSeries (λ b. skip (frame taken b) .read) first left (drop at rest)) ≡ skipped (readSeries (λ b. skip (frame taken b) .read) judged n rest))
+Inv-loop rest n judged strictly at₀ left₀ first₀ at left first =
+    (at ≤ length rest) × (skipped (readSeries (λ b. skip (frame (takenBy strictly) b) .read) first left (drop at rest)) ≡ skipped (readSeries (λ b. skip (frame (takenBy strictly) b) .read) judged n rest))
 
 abbrev μ-loop : tie.MeasureT-loop
-μ-loop rest n judged at₀ left₀ first₀ at left first = left
+μ-loop rest n judged strictly at₀ left₀ first₀ at left first = left
 
 -- the frame of this turn
 one : (c : tie.After-known-told Inv-loop μ-loop) →
     let p = c .before .before .before .before .before .before in
-    Stepped (skip (frame taken (p .loop .first))) (p .before .before .args .rest .now) (p .loop .at) tt (p .loop .at + c .before .got .given .0 .0)
+    Stepped (skip (frame (takenBy (p .before .before .args .strictly)) (p .loop .first))) (p .before .before .args .rest .now) (p .loop .at) tt (p .loop .at + c .before .got .given .0 .0)
 one c =
     let r = c .before .before .before in
     let p = r .before .before .before in
-    step (skip (frame taken (p .loop .first))) (p .before .before .args .rest .now) (p .loop .at) _ _ (p .loop .inv .0) (rw (c .before .got .given .1) at (r .skip-frame .ensures))
+    step (skip (frame (takenBy (p .before .before .args .strictly)) (p .loop .first))) (p .before .before .args .rest .now) (p .loop .at) _ _ (p .loop .inv .0) (rw (c .before .got .given .1) at (r .skip-frame .ensures))
 
 loop-holds : tie.Need-loop-holds Inv-loop μ-loop
 loop-holds c = (omega arith, refl)
@@ -56,13 +56,13 @@ returns c =
     let p = r .before .before .before in
     let a = p .before .before .args in
     let t = c .enum-told .given .1 in
-    let b = stop (skip (frame taken (p .loop .first))) (a .rest .now) (p .loop .at) _ _ (rw t at (r .skip-frame .ensures)) in
+    let b = stop (skip (frame (takenBy (p .before .before .args .strictly)) (p .loop .first))) (a .rest .now) (p .loop .at) _ _ (rw t at (r .skip-frame .ensures)) in
     record {
       same =
           rw t
-          (sym (ap skipped (series-bad (λ b. skip (frame taken b) .read) (p .loop .first) (p .loop .left) _ _ (r .before .before .loop-test .taken) b))
+          (sym (ap skipped (series-bad (λ b. skip (frame (takenBy (p .before .before .args .strictly)) b) .read) (p .loop .first) (p .loop .left) _ _ (r .before .before .loop-test .taken) b))
           ∙ p .loop .inv .1
-          ∙ series-skip (λ b. frame taken b .read) (a .judged) (a .n) (a .rest .now));
+          ∙ series-skip (λ b. frame (takenBy (p .before .before .args .strictly)) b .read) (a .judged) (a .n) (a .rest .now));
       inside = rw t (omega arith);
     }
 
@@ -79,7 +79,7 @@ loop-again : tie.Need-loop-again Inv-loop μ-loop
 loop-again c =
     let r = c .before .before .before in
     let p = r .before .before .before in
-    (one c .ends, sym (series-got (λ b. skip (frame taken b) .read) (p .loop .first) (p .loop .left) _ _ _ (r .before .before .loop-test .taken) (one c .reads)) ∙ p .loop .inv .1)
+    (one c .ends, sym (series-got (λ b. skip (frame (takenBy (p .before .before .args .strictly)) b) .read) (p .loop .first) (p .loop .left) _ _ _ (r .before .before .loop-test .taken) (one c .reads)) ∙ p .loop .inv .1)
 
 returns-2 : tie.Need-returns-2 Inv-loop μ-loop
 returns-2 c =
@@ -87,9 +87,9 @@ returns-2 c =
     let a = p .before .before .args in
     record {
       same =
-          sym (ap skipped (series-end (λ b. skip (frame taken b) .read) (p .loop .first) (p .loop .left) _ (c .loop-test .left)))
+          sym (ap skipped (series-end (λ b. skip (frame (takenBy (p .before .before .args .strictly)) b) .read) (p .loop .first) (p .loop .left) _ (c .loop-test .left)))
           ∙ p .loop .inv .1
-          ∙ series-skip (λ b. frame taken b .read) (a .judged) (a .n) (a .rest .now);
+          ∙ series-skip (λ b. frame (takenBy (p .before .before .args .strictly)) b .read) (a .judged) (a .n) (a .rest .now);
       inside = p .loop .inv .0;
     }
 

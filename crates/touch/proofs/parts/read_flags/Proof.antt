@@ -10,8 +10,8 @@ use Rattle.touch.proofs.Reading.{test-before, test-holds, test-fails}
 use Rattle.touch.proofs.parts.read_flags.Statement.{statement}
 use Rattle.touch.proofs.parts.read_flags.Tie as tie
 
-read-u4-requires : tie.Need-read-u4-requires
-read-u4-requires c κs = search needs
+read-u4-by-requires : tie.Need-read-u4-by-requires
+read-u4-by-requires c κs = search needs
 
 enum-known-got : tie.Need-enum-known-got
 enum-known-got c = search needs
@@ -22,7 +22,7 @@ enum-told c = search needs
 returns : tie.Need-returns
 returns c =
     let r = c .before .before in
-    test-before 2 listed badFlags (now (r .before .before .args .rest)) _ (r .read-u4 .ensures) _ (ap u4Of (c .enum-told .given .1))
+    test-before _ 2 listed badFlags (now (r .before .before .args .rest)) _ (r .read-u4-by .ensures) _ (ap u4Of (c .enum-told .given .1))
 
 is-listed-requires : tie.Need-is-listed-requires
 is-listed-requires c κs = search needs
@@ -31,19 +31,19 @@ returns-2 : tie.Need-returns-2
 returns-2 c =
     let k = c .before .before .before in
     let r = k .before .before in
-    test-holds 2 listed badFlags (now (r .before .before .args .rest)) _ (r .read-u4 .ensures) _ _ _ (ap u4Of (k .got .given .1)) (sym (c .before .is-listed .ensures) ∙ c .if1 .taken)
+    test-holds _ 2 listed badFlags (now (r .before .before .args .rest)) _ (r .read-u4-by .ensures) _ _ _ (ap u4Of (k .got .given .1)) (sym (c .before .is-listed .ensures) ∙ c .if1 .taken)
 
 returns-3 : tie.Need-returns-3
 returns-3 c =
     let k = c .before .before .before in
     let r = k .before .before in
-    test-fails 2 listed badFlags (now (r .before .before .args .rest)) _ (r .read-u4 .ensures) _ _ _ (ap u4Of (k .got .given .1)) (sym (c .before .is-listed .ensures) ∙ c .if1 .left)
+    test-fails _ 2 listed badFlags (now (r .before .before .args .rest)) _ (r .read-u4-by .ensures) _ _ _ (ap u4Of (k .got .given .1)) (sym (c .before .is-listed .ensures) ∙ c .if1 .left)
 
 pub read-flags-spec : {M : Type 1} → statement M
 read-flags-spec =
     tie.close
     (tie.spec
-    read-u4-requires
+    read-u4-by-requires
     enum-known-got
     enum-told
     returns

@@ -12,7 +12,7 @@ use mir.Facts.{toZ-ofZ}
 use lib.ListN.{drop}
 use Rattle.formats.specs.Format.{got}
 use Rattle.formats.proofs.Steps.{step, stop, Stepped}
-use Rattle.fields.specs.Integers.{taken}
+use Rattle.fields.specs.Integers.{Integers, takenBy}
 use Rattle.fields.proofs.Answers.{s4-answers}
 use Rattle.touch.specs.Touch.{point}
 use Rattle.touch.proofs.Reading.{first}
@@ -23,6 +23,9 @@ use Rattle.touch.proofs.parts.read_point.Tie as tie
 abbrev lent : tie.After-known-told → List ℕ
 lent c = now (c .before .before .before .before .before .args .rest)
 
+abbrev ints : tie.After-known-told → Integers
+ints c = takenBy (c .before .before .before .before .before .args .strictly)
+
 abbrev at-y : tie.After-known-told → ℕ
 at-y c = c .before .got-x .given .0 .1 .0
 
@@ -32,15 +35,15 @@ at-x c = c .before .before .before .before .before
 abbrev at-end : tie.After-known-told2 → ℕ
 at-end c = at-y (at-x c) + c .before .got-y .given .0 .1 .0
 
-x-read : (c : tie.After-known-told) → Stepped (taken .s4) (lent c) 0 (c .before .got-x .given .0 .0) (at-y c)
+x-read : (c : tie.After-known-told) → Stepped (ints c .s4) (lent c) 0 (c .before .got-x .given .0 .0) (at-y c)
 x-read c =
     let r = c .before .before .before in
-    first (taken .s4) (lent c) _ _ (rw (c .before .got-x .given .1) at (s4-answers (lent c) (r .read-s4 .result) (r .read-s4 .ensures)))
+    first (ints c .s4) (lent c) _ _ (rw (c .before .got-x .given .1) at (s4-answers _ (lent c) (r .read-s4-by .result) (r .read-s4-by .ensures)))
 
-y-read : (c : tie.After-known-told2) → Stepped (taken .s4) (lent (at-x c)) (at-y (at-x c)) (c .before .got-y .given .0 .0) (at-end c)
+y-read : (c : tie.After-known-told2) → Stepped (ints (at-x c) .s4) (lent (at-x c)) (at-y (at-x c)) (c .before .got-y .given .0 .0) (at-end c)
 y-read c =
     let r = c .before .before .before in
-    step (taken .s4) (lent (at-x c)) (at-y (at-x c)) _ _ (x-read (at-x c) .ends) (rw (c .before .got-y .given .1) at (s4-answers _ (r .read-s42 .result) (r .read-s42 .ensures)))
+    step (ints (at-x c) .s4) (lent (at-x c)) (at-y (at-x c)) _ _ (x-read (at-x c) .ends) (rw (c .before .got-y .given .1) at (s4-answers _ _ (r .read-s4-by2 .result) (r .read-s4-by2 .ensures)))
 
 x-fits : (c : tie.After-known-told) → SFits w32 (c .before .got-x .given .0 .0)
 x-fits c = search needs
@@ -48,8 +51,8 @@ x-fits c = search needs
 y-fits : (c : tie.After-known-told2) → SFits w32 (c .before .got-y .given .0 .0)
 y-fits c = search needs
 
-read-s4-requires : tie.Need-read-s4-requires
-read-s4-requires c κs = search needs
+read-s4-by-requires : tie.Need-read-s4-by-requires
+read-s4-by-requires c κs = search needs
 
 enum-known-got-x : tie.Need-enum-known-got-x
 enum-known-got-x c = search needs
@@ -65,20 +68,20 @@ unfolding point
 returns c =
     let t = c .before .enum-told .given .1 in
     let r = c .before .before .before in
-    let w = rw t at (s4-answers (now (r .before .before .args .rest)) (r .read-s4 .result) (r .read-s4 .ensures)) in
+    let w = rw t at (s4-answers _ (now (r .before .before .args .rest)) (r .read-s4-by .result) (r .read-s4-by .ensures)) in
     record { same = rw (c .refusal .ensures, t, sym (w .same)); inside = omega arith }
 
-sub-read-s4 : tie.Need-sub-read-s4
-sub-read-s4 c = x-read c .ends
+sub-read-s4-by : tie.Need-sub-read-s4-by
+sub-read-s4-by c = x-read c .ends
 
-part-read-s4-start : tie.Need-part-read-s4-start
-part-read-s4-start c = x-read c .ends
+part-read-s4-by-start : tie.Need-part-read-s4-by-start
+part-read-s4-by-start c = x-read c .ends
 
-part-read-s4-end : tie.Need-part-read-s4-end
-part-read-s4-end c = search needs
+part-read-s4-by-end : tie.Need-part-read-s4-by-end
+part-read-s4-by-end c = search needs
 
-read-s4-requires-2 : tie.Need-read-s4-requires-2
-read-s4-requires-2 c κs = search needs
+read-s4-by-requires-2 : tie.Need-read-s4-by-requires-2
+read-s4-by-requires-2 c κs = search needs
 
 enum-known-got-y : tie.Need-enum-known-got-y
 enum-known-got-y c = search needs
@@ -95,11 +98,11 @@ returns-2 c =
     let t = c .before .enum-told2 .given .1 in
     let r = c .before .before .before in
     let k = r .before .before in
-    let b = stop (taken .s4) (lent k) (at-y k) _ _ (rw t at (s4-answers _ (r .read-s42 .result) (r .read-s42 .ensures))) in
+    let b = stop (ints k .s4) (lent k) (at-y k) _ _ (rw t at (s4-answers _ _ (r .read-s4-by2 .result) (r .read-s4-by2 .ensures))) in
     record { same = rw (c .refusal2 .ensures, t, x-read k .reads, b); inside = omega arith }
 
-add-t10 : tie.Need-add-t10
-add-t10 c = omega (arith, y-read c .ends)
+add-t11 : tie.Need-add-t11
+add-t11 c = omega (arith, y-read c .ends)
 
 returns-3 : tie.Need-returns-3
 unfolding point
@@ -114,18 +117,18 @@ pub read-point-spec : {M : Type 1} → statement M
 read-point-spec =
     tie.close
     (tie.spec
-    read-s4-requires
+    read-s4-by-requires
     enum-known-got-x
     enum-told
     refusal-requires
     returns
-    sub-read-s4
-    part-read-s4-start
-    part-read-s4-end
-    read-s4-requires-2
+    sub-read-s4-by
+    part-read-s4-by-start
+    part-read-s4-by-end
+    read-s4-by-requires-2
     enum-known-got-y
     enum-told-2
     refusal-requires-2
     returns-2
-    add-t10
+    add-t11
     returns-3)

@@ -3,7 +3,7 @@
 use borrow.Author.Needs.{needs}
 use denote.Ref.{now}
 use Rattle.house.specs.Fits.{noSides}
-use Rattle.fields.specs.Integers.{taken}
+use Rattle.fields.specs.Integers.{takenBy}
 use Rattle.touch.specs.Touch.{sides}
 use Rattle.touch.proofs.Reading.{when-there, when-absent}
 use Rattle.touch.proofs.parts.read_sides.Statement.{statement}
@@ -16,12 +16,12 @@ returns : tie.Need-returns
 returns c =
     let r = c .before in
     let a = r .before .before .args in
-    when-there (sides taken) noSides (now (a .rest)) (a .there) _ _ (r .if1 .taken) (c .read-four .ensures)
+    when-there (sides (takenBy (a .strictly))) noSides (now (a .rest)) (a .there) _ _ (r .if1 .taken) (c .read-four .ensures)
 
 returns-2 : tie.Need-returns-2
 returns-2 c =
     let a = c .before .before .args in
-    when-absent (sides taken) noSides (now (a .rest)) (a .there) (c .if1 .left)
+    when-absent (sides (takenBy (a .strictly))) noSides (now (a .rest)) (a .there) (c .if1 .left)
 
 pub read-sides-spec : {M : Type 1} → statement M
 read-sides-spec =

@@ -82,7 +82,7 @@ fn all_down(rest: &[u8], n: u16) -> bool
     let mut at: usize = 0;
     let mut left = n;
     while 0 < left {
-        let got = touch::read_contact(&rest[at..]);
+        let got = touch::read_contact(&rest[at..], false);
         let ReadContact::Value(contact, k) = got else {
             return false;
         };

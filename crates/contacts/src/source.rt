@@ -11,5 +11,5 @@ pub fn read_contact(rest: &[u8], recorded: bool) -> ReadContact
     if recorded {
         return recordings::read_contact(rest);
     }
-    touch::read_contact(rest)
+    touch::read_contact(rest, false)
 }

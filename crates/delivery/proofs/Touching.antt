@@ -118,7 +118,7 @@ module _ (p : Panel) (time : Milliseconds) (records l : List ℕ) (b : Bytes rec
       let w = written time records l (rw e d) in
       let k = sym (w .read) ∙ checked-got time records fs t e .read in
       let z : w .frames ≡ fs = cc in
-      written-reads time records l b w ∙ ap (λ (gs : List (Frame Contact)). got (message time gs) []) z
+      written-reads false time records l b w ∙ ap (λ (gs : List (Frame Contact)). got (message time gs) []) z
 
   frames-understood : (fs : List (Frame Contact)) (t : List ℕ) → checkedFrames time records ≡ got fs t → sendingDraft p time fs ≡ bytes l → Understood p (touch time records) l
   unfolding touchSending effect

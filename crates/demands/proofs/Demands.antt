@@ -1,11 +1,14 @@
 -- THE THREE DEMANDS, each over nothing but the contracts of public calls. What each says is its type, in specs/.
 -- Assumes nothing.
+use mathlib.Core.Bool.{Bool}
 use Rattle.demands.specs.Refusing.{EveryRefusal}
 use Rattle.demands.specs.RoundTrip.{ReadAndWrittenBack}
+use Rattle.demands.specs.FirstFault.{FirstFault}
 use Rattle.demands.specs.Histories.{EveryHistory}
 use Rattle.demands.specs.Whole.{WritesWholeFrames}
 use Rattle.demands.proofs.Refusals.{every-refusal}
 use Rattle.demands.proofs.RoundTrip.{read-and-written-back}
+use Rattle.demands.proofs.FirstFault.{the-first-fault-answers}
 use Rattle.demands.proofs.Histories.{every-history}
 use Rattle.demands.proofs.Whole.{writes-whole-frames}
 
@@ -15,9 +18,14 @@ pub demand-1 : EveryRefusal
 demand-1 = every-refusal
 
 -- "Messages are read and judged as [MS-RDPEI] says, with document 01's rules where it is silent. Given room, a touch message that the plain reading
--- accepts is written back to the same bytes from its records and its encode time, and both are read back the same when the writer accepts them."
+-- accepts is written back .. from its records and its encode time, and both are read back the same when the writer accepts them." "In place of .. same
+-- bytes, reading and then writing yields the shortest message of the same meaning; doing that twice changes nothing more." (#104)
 pub demand-2 : ReadAndWrittenBack
 demand-2 = read-and-written-back
+
+-- "The body is judged left to right, field by field, and the first fault answers", strictly or not.
+pub first-fault : (strictly : Bool) → FirstFault strictly
+first-fault = the-first-fault-answers
 
 -- "Take any history of messages to one receiver, refused ones among them. For each contact, the records written are a legal path through the three
 -- states, starting out of range. After a cancel's own records nothing is written until an opening frame. From any opening frame accepted while no

@@ -1,5 +1,6 @@
 pub mod Refusals
 pub mod RoundTrip
+pub mod FirstFault
 pub mod Histories
 pub mod Whole
 pub mod Demands

@@ -26,7 +26,7 @@ use Rattle.messages.specs.declared.Ready.{Ready}
 use Rattle.framing.specs.Frame.{Frame}
 use Rattle.touch.specs.Limits.{mostFrames}
 use Rattle.touch.specs.Touch.{Touch}
-use Rattle.reading.specs.Plain.{plainly, draftOf, timeOf, ReadsPlainly, refusal as plainRefusal, answered as plainAnswered}
+use Rattle.reading.specs.Plain.{readBy, draftOf, timeOf, ReadsBy, refusal as plainRefusal, answered as plainAnswered}
 use Rattle.reading.specs.declared.PlainAnswer.{PlainAnswer}
 use Rattle.writing.specs.TouchDraft.{messageOf, framesDraft, checkedFrames, touchDraft, draftOf as touchDraftOf}
 use Rattle.writing.proofs.Checked.{checked-tame}
@@ -34,7 +34,7 @@ use Rattle.receiver.specs.Receive.{Effect, judged, effect, answerOf, receiverAf
 use Rattle.receiver.specs.declared.Receiver.{Receiver}
 use Rattle.receiver.specs.declared.Answer.{Answer}
 use Rattle.receiver.proofs.Refusing.{readNumbers, Listed, message-tame, effect-tame}
-use Rattle.demands.specs.Refusing.{integerNumbers, touchNumbers, readyNumbers, roomNumbers, plainNumbers, receiverNumbers, Unwritten, Unread, Unchanged, Refuses, EveryRefusal}
+use Rattle.demands.specs.Refusing.{integerNumbers, touchNumbers, readyNumbers, roomNumbers, plainNumbers, strictNumbers, receiverNumbers, Unwritten, Unread, Unchanged, Refuses, EveryRefusal}
 
 -- ---- the writers
 
@@ -119,36 +119,49 @@ one-of-more (x ∷ few) more h n e = go (eqb n x) refl e (one-of-more few more (
     go true w e k = rw (eqb-true n x w) (all-split _ _ h .0)
     go false w e k = k e
 
-plain-listed : (n : ℕ) → Listed false n → oneOf plainNumbers n ≡ true
+-- a reading's numbers, strictly or not
+abbrev readingNumbers : Bool → List ℕ
+readingNumbers strictly = cond strictly strictNumbers plainNumbers
+
+reading-listed : (strictly : Bool) (n : ℕ) → Listed strictly false n → oneOf (readingNumbers strictly) n ≡ true
 unfolding oneOf all
-plain-listed = one-of-more (readNumbers false) plainNumbers refl
+reading-listed true = one-of-more (readNumbers true false) strictNumbers refl
+reading-listed false = one-of-more (readNumbers false false) plainNumbers refl
 
-receiver-listed : (b : Bool) (n : ℕ) → Listed b n → oneOf receiverNumbers n ≡ true
+receiver-listed : (b : Bool) (n : ℕ) → Listed false b n → oneOf receiverNumbers n ≡ true
 unfolding oneOf all
-receiver-listed true = one-of-more (readNumbers true) receiverNumbers refl
-receiver-listed false = one-of-more (readNumbers false) receiverNumbers refl
+receiver-listed true = one-of-more (readNumbers false true) receiverNumbers refl
+receiver-listed false = one-of-more (readNumbers false false) receiverNumbers refl
 
--- ---- the plain reading
-
-draft-within : (x : Got Touch) → Tame (Listed false) x → Within plainNumbers (draftOf x)
-draft-within (got m t) h = tt
-draft-within (bad e) h = plain-listed e h
-
-plain-refuses : (l : List ℕ) (a : PlainAnswer) (before after : List ℕ) → ReadsPlainly l a before after → (a .refusal ≡ none → ⊥) → Unread a before after
+room-listed : (strictly : Bool) → oneOf (readingNumbers strictly) noRoom ≡ true
 unfolding oneOf
-plain-refuses l a before after h u =
-    go (given (length before) (draftOf (plainly l))) refl (given-within plainNumbers (draftOf (plainly l)) (length before) refl (draft-within (plainly l) (message-tame false l)))
-  where
-    go : (x : Draft) → given (length before) (draftOf (plainly l)) ≡ x → Within plainNumbers x → Unread a before after
-    go (bytes s) e i = absurd (u (ap (λ (v : PlainAnswer). v .refusal) (h .answer ∙ ap (plainAnswered (timeOf (plainly l))) e)))
-    go (refuse n) e i =
-        let q = h .answer ∙ ap (plainAnswered (timeOf (plainly l))) e in
-        let m : a .refusal ≡ n = ap (λ (v : PlainAnswer). v .refusal) q in
-        record { number = rw m i; others = q ∙ ap plainRefusal (sym m); output = h .output ∙ ap (left before) e }
+room-listed true = refl
+room-listed false = refl
+
+-- ---- the plain reading, and the strict one
+
+module _ (strictly : Bool) where
+  draft-within : (x : Got Touch) → Tame (Listed strictly false) x → Within (readingNumbers strictly) (draftOf x)
+  draft-within (got m t) h = tt
+  draft-within (bad e) h = reading-listed strictly e h
+
+  reading-refuses : (l : List ℕ) (a : PlainAnswer) (before after : List ℕ) → ReadsBy strictly l a before after → (a .refusal ≡ none → ⊥) → Unread (readingNumbers strictly) a before after
+  reading-refuses l a before after h u =
+      go (given (length before) (draftOf x)) refl (given-within (readingNumbers strictly) (draftOf x) (length before) (room-listed strictly) (draft-within x (message-tame strictly false l)))
+    where
+      x : Got Touch
+      x = readBy strictly l
+
+      go : (d : Draft) → given (length before) (draftOf x) ≡ d → Within (readingNumbers strictly) d → Unread (readingNumbers strictly) a before after
+      go (bytes s) e i = absurd (u (ap (λ (v : PlainAnswer). v .refusal) (h .answer ∙ ap (plainAnswered (timeOf x)) e)))
+      go (refuse n) e i =
+          let q = h .answer ∙ ap (plainAnswered (timeOf x)) e in
+          let m : a .refusal ≡ n = ap (λ (v : PlainAnswer). v .refusal) q in
+          record { number = rw m i; others = q ∙ ap plainRefusal (sym m); output = h .output ∙ ap (left before) e }
 
 -- ---- the receiver
 
-refused-by : (r : Receiver) (before : List ℕ) (x : Got Effect) → Tame (Listed (judged r)) x → (answerAfter x (length before) .refusal ≡ none → ⊥)
+refused-by : (r : Receiver) (before : List ℕ) (x : Got Effect) → Tame (Listed false (judged r)) x → (answerAfter x (length before) .refusal ≡ none → ⊥)
     → Unchanged r before (receiverAfter r x (length before)) (answerAfter x (length before)) (left before (given (length before) (effectDraft x)))
 unfolding receiverAfter answerAfter given oneOf
 refused-by r before (bad n) h u = record { number = receiver-listed (judged r) n h; others = refl; receiver = refl; output = refl }
@@ -170,7 +183,8 @@ every-refusal =
     record {
       receive = λ r message before x. receiver-refuses r message before (x .receiver) (x .answer);
       kangirlo-receive = receiver-refuses;
-      plain = plain-refuses;
+      plain = reading-refuses false;
+      plain-strictly = reading-refuses true;
       write-u2 = integer-refuses 1 0 0;
       write-s2 = λ z. integer-refuses 1 1 (minus z) (natAbs z);
       write-u4 = integer-refuses 2 0 0;

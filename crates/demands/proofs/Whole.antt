@@ -31,7 +31,7 @@ use Rattle.framing.specs.Frame.{Frame, headOf, contactsBytes, frameBytes, frame
 use Rattle.framing.specs.Whole.{Formed, Framed, ends, contact, cancel, dismissal, FramesWhole}
 use Rattle.framing.proofs.Whole.{contact-formed, head-framed, framed-then, each-is-well-formed}
 use Rattle.touch.specs.Touch.{Touch, touch, touchRecord}
-use Rattle.touch.proofs.Laws.{strict-touch-law}
+use Rattle.touch.proofs.Laws.{form-touch-law}
 use Rattle.touch.proofs.Ranges.{ContactRead}
 use Rattle.machine.specs.Table.{Table, contacts, stateAt, placeAt, active}
 use Rattle.machine.specs.Machine.{Machine, cancelFlags, storedBytes, cancelBytes, cancelsFrom, dismissBytes, stepMachine, stepBytes, runBytes}
@@ -41,7 +41,8 @@ use Rattle.stream.specs.Asked.{All, FrameFits}
 use Rattle.stream.proofs.Steadiness.{Sound, beyond, Steady, Judged, injects, ignores, judged, step-steady}
 use Rattle.stream.proofs.Kept.{timed-fit}
 use Rattle.stream.proofs.Paths.{cancel-small}
-use Rattle.reading.specs.Plain.{plainly, ReadsPlainly}
+use Rattle.reading.specs.Plain.{readBy, plainly, ReadsBy}
+use Rattle.reading.proofs.Agreeing.{accepted-plainly}
 use Rattle.reading.specs.declared.PlainAnswer.{PlainAnswer}
 use Rattle.recordings.proofs.Records.{kind-touched}
 use Rattle.receiver.specs.Receive.{machineOf, fresh, untimed}
@@ -59,8 +60,8 @@ use Rattle.kangirlo.specs.Flat.{flattened, flat}
 use Rattle.kangirlo.specs.Flat as flat-record
 use Rattle.kangirlo.specs.declared.FlatRecord.{FlatRecord}
 use Rattle.demands.specs.Whole.{WritesWholeFrames}
-use Rattle.demands.proofs.RoundTrip.{judged as plain-judged, read-front}
-use Rattle.demands.specs.RoundTrip.{Refused}
+use Rattle.demands.proofs.RoundTrip.{judged as reading-judged, read-front}
+use Rattle.demands.specs.RoundTrip.{Refused, recordsRead}
 
 -- ---- frames that were read
 
@@ -185,23 +186,27 @@ none-whole n a before out h =
     let e : take (recordBytes * a .records) out ≡ [] = ap (λ (v : PlainAnswer). take (recordBytes * v .records) out) (h .answer) in
     rw e ends
 
--- the frames that the plain reading reads
+-- the frames that a reading reads
 plainly-read : (message : List ℕ) (m : Touch) (t : List ℕ) → Bytes message → plainly message ≡ got m t → All (FrameFits ContactRead) (m .frames)
 plainly-read message m t b e =
-    body-read false (drop headerBytes message) m t (bytes-drop headerBytes message b) (message-got (touch taken false) (strict-touch-law false) event.touch message m t e .rest)
+    body-read false (drop headerBytes message) m t (bytes-drop headerBytes message b) (message-got (touch taken false) (form-touch-law false false) event.touch message m t e .rest)
 
-plain-whole : (message : List ℕ) (a : PlainAnswer) (before out : List ℕ) → Bytes message → ReadsPlainly message a before out → FramesWhole (take (recordBytes * a .records) out)
-plain-whole message a before out b h = go (plainly message) refl
+frames-read : (strictly : Bool) (message : List ℕ) (m : Touch) (t : List ℕ) → Bytes message → readBy strictly message ≡ got m t → All (FrameFits ContactRead) (m .frames)
+frames-read true message m t b e = plainly-read message m t b (accepted-plainly message m t e)
+frames-read false message m t b e = plainly-read message m t b e
+
+reading-whole : (strictly : Bool) (message : List ℕ) (a : PlainAnswer) (before out : List ℕ) → Bytes message → ReadsBy strictly message a before out → FramesWhole (recordsRead a out)
+reading-whole strictly message a before out b h = go (readBy strictly message) refl
   where
-    go : (x : Got Touch) → plainly message ≡ x → FramesWhole (take (recordBytes * a .records) out)
-    go (bad n) e = none-whole n a before out (plain-judged message a before out h .refuses n e)
+    go : (x : Got Touch) → readBy strictly message ≡ x → FramesWhole (take (recordBytes * a .records) out)
+    go (bad n) e = none-whole n a before out (reading-judged strictly message a before out h .refuses n e)
     go (got m t) e = by (leb (length (framesBytes touchRecord (m .frames))) (length before)) refl
       where
         by : (c : Bool) → leb (length (framesBytes touchRecord (m .frames))) (length before) ≡ c → FramesWhole (take (recordBytes * a .records) out)
         by true r =
-            rw (read-front (m .time) (m .frames) a before out (plain-judged message a before out h .accepts m t e (leb-true _ _ r)))
-            (frames-whole (m .frames) (plainly-read message m t b e))
-        by false r = none-whole noRoom a before out (plain-judged message a before out h .lacksRoom m t e (leb-false _ _ r))
+            rw (read-front (m .time) (m .frames) a before out (reading-judged strictly message a before out h .accepts m t e (leb-true _ _ r)))
+            (frames-whole (m .frames) (frames-read strictly message m t b e))
+        by false r = none-whole noRoom a before out (reading-judged strictly message a before out h .lacksRoom m t e (leb-false _ _ r))
 
 -- a well-formed record is read
 front-read : (l : List ℕ) → Front l → wellFormed l ≡ true → flattened (recordOf l) .refusal ≡ none
@@ -222,7 +227,7 @@ received-whole h k c a b =
 pub writes-whole-frames : WritesWholeFrames
 writes-whole-frames =
     record {
-      plain = plain-whole;
+      readings = reading-whole;
       receiver = received-whole;
       formed = λ l i h k. each-is-well-formed zero l h i k;
       readable = λ l i r h k e. ap (λ (v : FlatRecord). v .refusal) e ∙ well-read (drop (recordBytes * i) l) (each-is-well-formed zero l h i k);

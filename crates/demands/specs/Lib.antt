@@ -3,3 +3,4 @@ pub mod Refusing
 pub mod RoundTrip
 pub mod Histories
 pub mod Whole
+pub mod FirstFault

@@ -19,7 +19,7 @@ use Rattle.house.specs.declared.Contact.{Contact}
 use Rattle.messages.specs.Header.{oneOf}
 use Rattle.messages.specs.Bodies.{serverReadyDraft, clientReadyDraft, suspendDraft, resumeDraft, dismissDraft}
 use Rattle.messages.specs.declared.Ready.{Ready}
-use Rattle.reading.specs.Plain.{ReadsPlainly, refusal as plainRefusal}
+use Rattle.reading.specs.Plain.{ReadsPlainly, ReadsStrictly, refusal as plainRefusal}
 use Rattle.reading.specs.declared.PlainAnswer.{PlainAnswer}
 use Rattle.writing.specs.TouchDraft.{touchDraft}
 use Rattle.receiver.specs.Receive.{Receives, refusal as receiverRefusal}
@@ -44,16 +44,16 @@ readyNumbers = badField ∷ noRoom ∷ []
 abbrev pub roomNumbers : List ℕ
 roomNumbers = noRoom ∷ []
 
--- "The plain reading .. doesn't apply 11"; 14 is a writer's
+-- "The plain reading .. doesn't apply 11"; 14 is a writer's; #104: "6 is no longer given by the receiver or the plain reading"
 abbrev pub plainNumbers : List ℕ
-plainNumbers =
-    short ∷ tooLong ∷ unexpected ∷ badLength ∷ truncated ∷ notShortest ∷ badCount ∷ badField ∷ badFlags ∷ badRange ∷ trailing ∷ noRoom
-    ∷ []
+plainNumbers = short ∷ tooLong ∷ unexpected ∷ badLength ∷ truncated ∷ badCount ∷ badField ∷ badFlags ∷ badRange ∷ trailing ∷ noRoom ∷ []
+
+-- "A strict reading with 6 stays"
+abbrev pub strictNumbers : List ℕ
+strictNumbers = notShortest ∷ plainNumbers
 
 abbrev pub receiverNumbers : List ℕ
-receiverNumbers =
-    short ∷ tooLong ∷ unexpected ∷ badLength ∷ truncated ∷ notShortest ∷ badCount ∷ badField ∷ badFlags ∷ badRange ∷ badOffset ∷ trailing ∷ noRoom
-    ∷ []
+receiverNumbers = badOffset ∷ plainNumbers
 
 -- ---- "A refusal answers its number with all other fields 0; the receiver, mode and first-frame mark included, and the output stay as they
 -- were."
@@ -64,9 +64,9 @@ pub record Unwritten (numbers : List ℕ) (w : Written) (before after : List ℕ
   pub others : w .bytes ≡ 0
   pub output : after ≡ before
 
--- of the plain reading
-pub record Unread (a : PlainAnswer) (before after : List ℕ) : Type 0 where
-  pub number : oneOf plainNumbers (a .refusal) ≡ true
+-- of the plain reading, or the strict one
+pub record Unread (numbers : List ℕ) (a : PlainAnswer) (before after : List ℕ) : Type 0 where
+  pub number : oneOf numbers (a .refusal) ≡ true
   pub others : a ≡ plainRefusal (a .refusal)
   pub output : after ≡ before
 
@@ -90,8 +90,9 @@ pub record EveryRefusal : Type 0 where
       → Receives r message before (x .receiver) (x .answer) after → (x .answer .refusal ≡ none → ⊥) → Unchanged r before (x .receiver) (x .answer) after
   pub kangirlo-receive : (r : Receiver) (message before : List ℕ) (q : Receiver) (a : Answer) (after : List ℕ)
       → Receives r message before q a after → (a .refusal ≡ none → ⊥) → Unchanged r before q a after
-  -- the plain reading
-  pub plain : (message : List ℕ) (a : PlainAnswer) (before after : List ℕ) → ReadsPlainly message a before after → (a .refusal ≡ none → ⊥) → Unread a before after
+  -- the plain reading, and the strict one
+  pub plain : (message : List ℕ) (a : PlainAnswer) (before after : List ℕ) → ReadsPlainly message a before after → (a .refusal ≡ none → ⊥) → Unread plainNumbers a before after
+  pub plain-strictly : (message : List ℕ) (a : PlainAnswer) (before after : List ℕ) → ReadsStrictly message a before after → (a .refusal ≡ none → ⊥) → Unread strictNumbers a before after
   -- the writers of integers
   pub write-u2 : (value : ℕ) → Refuses integerNumbers (draft 1 0 0 value)
   pub write-s2 : (value : ℤ) → Refuses integerNumbers (draft 1 1 (minus value) (natAbs value))

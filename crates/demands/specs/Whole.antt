@@ -1,25 +1,26 @@
--- What the plain reading and the receiver write, over the calls: records of whole frames, each of them well formed.
+-- What the plain reading, the strict one and the receiver write, over the calls: records of whole frames, each of them well formed.
 use Prim.Native.Nat.{ℕ, _*_, _<_}
 use mathlib.Core.Path.{_≡_}
-use mathlib.Core.Bool.{true}
+use mathlib.Core.Bool.{Bool, true}
 use mathlib.Core.List.{List, [], _∷_}
-use lib.ListN.{length, take, drop}
+use lib.ListN.{length, drop}
 use Rattle.paper.specs.Refusals.{none}
 use Rattle.digits.specs.Digits.{Bytes}
 use Rattle.house.specs.Fields.{recordBytes}
 use Rattle.house.specs.WellFormed.{wellFormed}
 use Rattle.framing.specs.Whole.{FramesWhole}
-use Rattle.reading.specs.Plain.{ReadsPlainly}
+use Rattle.reading.specs.Plain.{ReadsBy}
 use Rattle.reading.specs.declared.PlainAnswer.{PlainAnswer}
 use Rattle.receiver.specs.Receive.{fresh}
 use Rattle.kangirlo.specs.Flat.{flat}
 use Rattle.kangirlo.specs.declared.FlatRecord.{FlatRecord}
+use Rattle.demands.specs.RoundTrip.{recordsRead}
 use Rattle.demands.specs.Histories.{Call, Calls, History, last, recordsLeft}
 
 -- the records answered stand at the front of the output that was lent as `before` and left as `out`
 pub record WritesWholeFrames : Type 0 where
-  pub plain : (message : List ℕ) (a : PlainAnswer) (before out : List ℕ) → Bytes message → ReadsPlainly message a before out
-      → FramesWhole (take (recordBytes * a .records) out)
+  pub readings : (strictly : Bool) (message : List ℕ) (a : PlainAnswer) (before out : List ℕ) → Bytes message → ReadsBy strictly message a before out
+      → FramesWhole (recordsRead a out)
   -- each call of the receiver, after any history of calls
   pub receiver : (h : List Call) → History h → (c : Call) → Calls (last fresh h) (c ∷ []) → Bytes (c .message) → FramesWhole (recordsLeft c)
   -- each record of whole frames is one that house::is_well_formed takes, and kangirlo_read_record refuses none of them by 14

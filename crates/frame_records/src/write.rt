@@ -16,7 +16,7 @@ fn write_contacts(out: &mut [u8], rest: &[u8], n: usize)
     let mut at: usize = 0;
     let mut left = n;
     while 0 < left {
-        let got = touch::read_contact(&rest[at..]);
+        let got = touch::read_contact(&rest[at..], false);
         let ReadContact::Value(contact, k) = got else {
             return;
         };

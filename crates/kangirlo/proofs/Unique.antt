@@ -2,15 +2,16 @@
 -- Assumes nothing.
 use Prim.Native.Nat.{ℕ}
 use mathlib.Core.Path.{_≡_, sym, _∙_}
+use mathlib.Core.Bool.{true, false}
 use mathlib.Core.List.{List}
 use Rattle.paper.specs.declared.Milliseconds.{Milliseconds}
 use Rattle.slices.specs.Writing.{Draft, Writes}
 use Rattle.slices.specs.declared.Written.{Written}
 use Rattle.messages.specs.Bodies.{serverReadyDraft, clientReadyDraft, suspendDraft, resumeDraft, dismissDraft}
 use Rattle.messages.proofs.Unique.{writers-unique}
-use Rattle.reading.specs.Plain.{ReadsPlainly}
+use Rattle.reading.specs.Plain.{ReadsPlainly, ReadsStrictly}
 use Rattle.reading.specs.declared.PlainAnswer.{PlainAnswer}
-use Rattle.reading.proofs.Unique.{plain-unique}
+use Rattle.reading.proofs.Unique.{read-unique}
 use Rattle.writing.specs.TouchDraft.{touchDraft}
 use Rattle.writing.proofs.Unique.{write-touch-unique}
 use Rattle.machine.specs.Table.{Table}
@@ -44,6 +45,8 @@ pub record Calls : Type 0 where
       → (m ≡ n) × (t ≡ u) × (a ≡ a′) × (o ≡ o′)
   pub kangirlo-plain : (message : List ℕ) (a b : PlainAnswer) (before after after′ : List ℕ)
       → ReadsPlainly message a before after → ReadsPlainly message b before after′ → (a ≡ b) × (after ≡ after′)
+  pub kangirlo-plain-strictly : (message : List ℕ) (a b : PlainAnswer) (before after after′ : List ℕ)
+      → ReadsStrictly message a before after → ReadsStrictly message b before after′ → (a ≡ b) × (after ≡ after′)
   pub kangirlo-write-server-ready : (version : ℕ) → One (serverReadyDraft version)
   pub kangirlo-write-client-ready : (flags version most : ℕ) → One (clientReadyDraft (record { flags = flags; version = version; most = most }))
   pub kangirlo-write-touch : (time : Milliseconds) (records : List ℕ) → One (touchDraft time records)
@@ -60,7 +63,8 @@ calls-unique =
       kangirlo-receive-all = receive-all-unique;
       kangirlo-receive-parts = receive-parts-unique;
       kangirlo-receive-all-parts = receive-all-parts-unique;
-      kangirlo-plain = plain-unique;
+      kangirlo-plain = read-unique false;
+      kangirlo-plain-strictly = read-unique true;
       kangirlo-write-server-ready = writers-unique .write-server-ready;
       kangirlo-write-client-ready = λ flags version most. writers-unique .write-client-ready (record { flags = flags; version = version; most = most });
       kangirlo-write-touch = write-touch-unique;

@@ -16,7 +16,7 @@ use slices::Written;
 ghost use mathlib.Core.Path.{_≡_};
 ghost use Rattle.slices.specs.Writing.{Writes};
 ghost use Rattle.messages.specs.Bodies.{serverReadyDraft, clientReadyDraft, suspendDraft, resumeDraft, dismissDraft};
-ghost use Rattle.reading.specs.Plain.{ReadsPlainly};
+ghost use Rattle.reading.specs.Plain.{ReadsPlainly, ReadsStrictly};
 ghost use Rattle.writing.specs.TouchDraft.{touchDraft};
 ghost use Rattle.contacts.specs.Ruling.{tableFrom};
 ghost use Rattle.receiver.specs.Events.{ofParts};
@@ -118,6 +118,14 @@ pub extern "C" fn kangirlo_plain(message: &[u8], output: &mut [u8]) -> PlainAnsw
     ensures { λ r. ⌜ ReadsPlainly (now (message .entry)) r (now (output .entry)) (now (output .exit)) ⌝ }
 {
     reading::plain(message, output)
+}
+
+// The same with 6 for an integer that is not in its only form.
+#[no_mangle]
+pub extern "C" fn kangirlo_plain_strictly(message: &[u8], output: &mut [u8]) -> PlainAnswer
+    ensures { λ r. ⌜ ReadsStrictly (now (message .entry)) r (now (output .entry)) (now (output .exit)) ⌝ }
+{
+    reading::plain_strictly(message, output)
 }
 
 #[no_mangle]

@@ -3,3 +3,4 @@ pub mod Writing
 pub mod Judging
 pub mod Answering
 pub mod Unique
+pub mod Agreeing

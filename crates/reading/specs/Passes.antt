@@ -1,7 +1,7 @@
 -- What the parts of the plain reading answer: the judging of a message, the pass that counts its records and the pass that writes them.
 use Prim.Native.Nat.{ℕ, _*_, _≤_}
 use mathlib.Core.Path.{_≡_}
-use mathlib.Core.Bool.{false}
+use mathlib.Core.Bool.{Bool, false}
 use mathlib.Core.List.{List, []}
 use lib.ListN.{length, drop}
 use Rattle.slices.specs.Writing.{laid}
@@ -15,23 +15,23 @@ use Rattle.framing.specs.declared.BodyHead.{BodyHead}
 use Rattle.touch.specs.declared.CheckedBody.{CheckedBody}
 use Rattle.touch.specs.declared.CheckedBody.the-variants as CheckedBody
 use Rattle.frame_records.specs.Frames.{recordCount}
-use Rattle.reading.specs.Plain.{plainly}
+use Rattle.reading.specs.Plain.{readBy}
 
 -- n frames, whose offsets are not judged
 abbrev pub frames : ℕ → Format (List (Frame Contact))
 frames n = series (frame taken) false n
 
 -- a message that is read: what stands before its frames, and that these begin at at
-pub record Reads (l : List ℕ) (h : BodyHead) (at : ℕ) : Type 0 where
+pub record Reads (strictly : Bool) (l : List ℕ) (h : BodyHead) (at : ℕ) : Type 0 where
   pub message : Touch
-  pub read : plainly l ≡ got message []
+  pub read : readBy strictly l ≡ got message []
   pub head : h ≡ bodyHeadOf message
   pub inside : at ≤ length l
   pub frames : frames (h .frames) .read (drop at l) ≡ got (message .frames) []
 
-abbrev pub Judges : List ℕ → CheckedBody → Type 0
-Judges l (CheckedBody.Body h at) = Reads l h at
-Judges l (CheckedBody.Refused e) = plainly l ≡ bad e
+abbrev pub Judges : Bool → List ℕ → CheckedBody → Type 0
+Judges strictly l (CheckedBody.Body h at) = Reads strictly l h at
+Judges strictly l (CheckedBody.Refused e) = readBy strictly l ≡ bad e
 
 -- r is how many records n frames have, if they can be read
 pub record CountsRecords (n : ℕ) (l : List ℕ) (r : ℕ) : Type 0 where

@@ -4,13 +4,13 @@ use touch::CheckedBody;
 ghost use Rattle.reading.specs.Passes.{Judges};
 
 // What stands before a message's frames and where in the message they begin, or the first fault.
-pub(crate) fn judge(message: &[u8]) -> CheckedBody
-    ensures { λ r. ⌜ Judges (now (message .entry)) r ⌝ }
+pub(crate) fn judge(message: &[u8], strictly: bool) -> CheckedBody
+    ensures { λ r. ⌜ Judges strictly (now (message .entry)) r ⌝ }
 {
     match messages::read_header(message, messages::TOUCH, messages::TOUCH) {
         Header::Refused(e) => CheckedBody::Refused(e),
         Header::Event(_) => {
-            let checked = touch::check_body(&message[messages::HEADER_BYTES..], false);
+            let checked = touch::check_body(&message[messages::HEADER_BYTES..], false, strictly);
             let CheckedBody::Body(head, at) = checked else {
                 return checked;
             };

@@ -111,7 +111,7 @@ module _ (r : Receiver) (h : length (r .states) ≡ contacts) (x : Sent) where
       by e true w k z = omega arith
       by e false w k z = omega (arith, leb-false (length (e .bytes)) (x .room) w)
 
-      go : (y : Got Effect) → effect r (x .message) ≡ y → Tame (Listed (judged r)) y → answerAfter y (x .room) .refusal ≡ noRoom → ⊥
+      go : (y : Got Effect) → effect r (x .message) ≡ y → Tame (Listed false (judged r)) y → answerAfter y (x .room) .refusal ≡ noRoom → ⊥
       go (got e t) w k z = by e (leb (length (e .bytes)) (x .room)) refl (no-message-writes-more r h (x .message) e t w) z
       go (bad n) w k z = not-room (judged r) (rw z at k)
 

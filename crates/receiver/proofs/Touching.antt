@@ -128,7 +128,7 @@ module _ (r : Receiver) (h : BodyHead) (l : List ℕ) (k : ℕ) (before mid : Li
 -- ---- the whole body
 
 module _ (r : Receiver) (b : List ℕ) (j : Bool) (ej : j ≡ judged r) (before : List ℕ) (q : Received) where
-  pub touch-refused : (x : CheckedBody) (n k : ℕ) → Checks j b x → x ≡ CheckedBody.Refused n → k ≡ checkedRefusal x → q ≡ record { receiver = r; answer = refusal k }
+  pub touch-refused : (x : CheckedBody) (n k : ℕ) → Checks false j b x → x ≡ CheckedBody.Refused n → k ≡ checkedRefusal x → q ≡ record { receiver = r; answer = refusal k }
       → Gives r (touchEffect r b) before q before
   touch-refused x n k c e f a = go (body taken j b) refl (sym (ap checkedGot e) ∙ c .same)
     where
@@ -140,9 +140,9 @@ module _ (r : Receiver) (b : List ℕ) (j : Bool) (ej : j ≡ judged r) (before 
           let kn : k ≡ z = f ∙ ap checkedRefusal e ∙ sym zn in
           gives-refused r before q (touchEffect r b) z (rw v) (a ∙ ap (λ (y : ℕ). record { receiver = r; answer = refusal y }) kn)
 
-  module _ (h : BodyHead) (at : ℕ) (c : Checks j b (CheckedBody.Body h at)) (after : List ℕ) where
-    it : Checked j b h at
-    it = checked j b h at c
+  module _ (h : BodyHead) (at : ℕ) (c : Checks false j b (CheckedBody.Body h at)) (after : List ℕ) where
+    it : Checked false j b h at
+    it = checked false j b h at c
 
     read : body taken (judged r) b ≡ got (it .message) []
     read = sym (ap (λ (y : Bool). body taken y b) ej) ∙ it .read

@@ -24,7 +24,7 @@ fn carry_contacts(
     let mut at: usize = 0;
     let mut left = n;
     while 0 < left {
-        let got = touch::read_contact(&rest[at..]);
+        let got = touch::read_contact(&rest[at..], false);
         let ReadContact::Value(contact, k) = got else {
             return 0;
         };

@@ -1,5 +1,6 @@
 -- `receiver::frames::receive_touch` meets its contract.
 -- Assumes nothing.
+use mathlib.Core.Bool.{false}
 use borrow.Author.Needs.{needs}
 use borrow.Author.Tests.{eq-eqb, ne-eqb}
 use mathlib.Core.Path.{sym, _∙_}
@@ -38,7 +39,7 @@ returns c =
 -- the body that was checked
 body-is : (c : tie.After-known-told) →
     let k = c .before .before .before in
-    Checks (k .before .is-judged .result) (k .before .before .before .before .before .args .body .now) (CheckedBody.Body (c .before .checked .given .0 .0) (c .before .checked .given .0 .1 .0))
+    Checks false (k .before .is-judged .result) (k .before .before .before .before .before .args .body .now) (CheckedBody.Body (c .before .checked .given .0 .0) (c .before .checked .given .0 .1 .0))
 body-is c = rw (c .before .checked .given .1) at (c .before .before .before .check-body .ensures)
 
 abbrev judging : tie.After-known-told → tie.After-is-judged

@@ -1,8 +1,9 @@
--- `reading::plain` meets its contract: the message is judged to its last byte, then the room, and only then is anything written.
+-- `reading::read` meets its contract: the message is judged to its last byte, then the room, and only then is anything written.
 -- Assumes nothing.
 use borrow.Author.Needs.{needs}
 use Prim.Native.Nat.{ℕ, _*_, _-_}
 use mathlib.Core.Path.{_≡_, refl, sym, ap, _∙_}
+use mathlib.Core.Bool.{Bool}
 use mathlib.Core.List.{List, []}
 use native.Mathlib.Omega.{arith}
 use denote.Ref.{now}
@@ -16,8 +17,8 @@ use Rattle.frame_records.specs.Frames.{recordCount}
 use Rattle.frame_records.proofs.Laws.{length-frames}
 use Rattle.reading.specs.Passes.{frames, Reads}
 use Rattle.reading.proofs.Answering.{plain-refused, plain-none, plain-read}
-use Rattle.reading.proofs.plain.Statement.{statement}
-use Rattle.reading.proofs.plain.Tie as tie
+use Rattle.reading.proofs.read.Statement.{statement}
+use Rattle.reading.proofs.read.Tie as tie
 
 -- the message, what stands before its frames, and where they begin
 abbrev lent : tie.After-known-told → List ℕ
@@ -29,7 +30,10 @@ head c = c .before .judged .given .0 .0
 abbrev at : tie.After-known-told → ℕ
 at c = c .before .judged .given .0 .1 .0
 
-accepted : (c : tie.After-known-told) → Reads (lent c) (head c) (at c)
+abbrev form : tie.After-known-told → Bool
+form c = c .before .before .before .before .before .before .args .strictly
+
+accepted : (c : tie.After-known-told) → Reads (form c) (lent c) (head c) (at c)
 accepted c = rw (c .before .judged .given .1) at (c .before .before .before .judge .ensures)
 
 -- the frames, in the tail that is lent to each pass
@@ -61,7 +65,7 @@ refused-requires c κs = search needs
 returns : tie.Need-returns
 returns c =
     let t = c .before .before .enum-told .given .1 in
-    plain-refused _ _ _ _ _ (rw t at (c .before .before .before .before .judge .ensures)) (c .refused .ensures ∙ rw (c .before .refusal .ensures, t)) refl
+    plain-refused _ _ _ _ _ _ (rw t at (c .before .before .before .before .judge .ensures)) (c .refused .ensures ∙ rw (c .before .refusal .ensures, t)) refl
 
 sub-count-records : tie.Need-sub-count-records
 sub-count-records c = accepted c .inside
@@ -86,7 +90,7 @@ returns-2 c =
     let r = c .before .before in
     let k = accepted (r .before .before) in
     let n = room r in
-    plain-none _ _ _ _ (k .message) (k .read) (omega arith) (c .refused2 .ensures) refl
+    plain-none _ _ _ _ _ (k .message) (k .read) (omega arith) (c .refused2 .ensures) refl
 
 sub-write-frames : tie.Need-sub-write-frames
 sub-write-frames c = accepted (c .before .before .before .before) .inside
@@ -114,10 +118,10 @@ returns-3 c =
     let k = accepted (r .before .before) in
     let n = room r in
     let t = ap (λ (h : BodyHead). h .time) (k .head) in
-    plain-read _ _ _ _ (k .message) (k .read) (omega arith) (λ i. record { refusal = 0; time = t i; records = counted r i }) (w .write-frames .ensures (k .message .frames) [] (frames-read (r .before .before)))
+    plain-read _ _ _ _ _ (k .message) (k .read) (omega arith) (λ i. record { refusal = 0; time = t i; records = counted r i }) (w .write-frames .ensures (k .message .frames) [] (frames-read (r .before .before)))
 
-pub plain-spec : {M : Type 1} → statement M
-plain-spec =
+pub read-spec : {M : Type 1} → statement M
+read-spec =
     tie.close
     (tie.spec
     judge-requires

@@ -4,7 +4,7 @@ from collections import Counter
 
 import corpus
 from corpus import contact, dismiss, frame, touch
-from histories import History, all_lifted
+from histories import History, all_lifted, without_padding
 from make_bench import walk
 from reference import house, programs, receiver
 from reference.batch import Batch, receive_all
@@ -34,11 +34,26 @@ def one(flags, contact_id=1, x=5, y=6, time=0, offset=0):
 
 
 class Host:
-    """Entries for one fresh receiver, and what the reference makes of them."""
+    """Entries for one fresh receiver, and what the reference makes of them.
+
+    'receiver' gets all of them; 'keeper' is what batches are chosen by, and gets no padded message until it is told
+    to follow, as in a History.
+    """
 
     def __init__(self):
         self.entries = []
+        self.receiver = receiver.Receiver()
         self.keeper = receiver.Receiver()
+        self.following = False
+
+    def follow(self):
+        """From here on batches are chosen by the receiver that gets everything."""
+        self.keeper = self.receiver
+        self.following = True
+
+    def seen(self, sent):
+        """What the keeper gets of a batch: as many entries."""
+        return sent if self.following else [without_padding(message) for message in sent]
 
     def bad(self, *payloads):
         """Entries too short for room and places."""
@@ -47,9 +62,12 @@ class Host:
 
     def send(self, sent, room=AMPLE, places=None, tail=b""):
         """A batch of messages, with just as many places unless another number is given."""
-        payload = entry(room, len(sent) if places is None else places, corpus.joined(sent, tail))
+        places = len(sent) if places is None else places
+        payload = entry(room, places, corpus.joined(sent, tail))
         self.entries.append(payload)
-        self.keeper, answer, fed = programs.batch_call(self.keeper, payload)
+        self.receiver, answer, fed = programs.batch_call(self.receiver, payload)
+        chosen_by = entry(room, places, corpus.joined(self.seen(sent), tail))
+        self.keeper, _, _ = programs.batch_call(self.keeper, chosen_by)
         return answer, [each.refusal for each, _ in fed]
 
     def fed(self, refusals, sent, **lent):
@@ -62,8 +80,8 @@ class Host:
 
     def refused(self, sent, **lent):
         """18: the receiver stays as it was."""
-        before = self.keeper
-        assert self.send(sent, **lent) == (Batch(BAD_BATCH), []) and self.keeper == before
+        before = self.receiver
+        assert self.send(sent, **lent) == (Batch(BAD_BATCH), []) and self.receiver == before
 
     def rest(self):
         """Batches after which the receiver runs and no contact is active."""
@@ -79,14 +97,15 @@ class Host:
 # Random use
 
 
-def mixture(host, rng, ids, faults=0.15):
+def mixture(host, rng, ids, faults=0.15, play=walk):
     """A batch that is chosen by the receiver's state; room, list and end are mostly good."""
     history = History()
-    history.keeper = host.keeper
-    walk(history, rng, ids, rng.choice((0, 1, 1, 2, 3, 5, 8, 12)), faults)
+    history.keeper, history.following = host.keeper, host.following
+    play(history, rng, ids, rng.choice((0, 1, 1, 2, 3, 5, 8, 12)), faults)
     sent = history.entries
     tail = corpus.cut_entry(dismiss(1)[: rng.randrange(8)]) if rng.random() < 0.05 else b""
-    host.send(sent, random_room(rng, needed_room(host.keeper, sent)), random_places(rng, len(sent)), tail)
+    needed = needed_room(host.keeper, host.seen(sent))
+    host.send(sent, random_room(rng, needed), random_places(rng, len(sent)), tail)
 
 
 def needed_room(keeper, sent):

@@ -102,6 +102,63 @@ def records_of(frames):
     return b"".join(record for one in frames for record in messages.frame_records(one))
 
 
+# Padding: forms longer than a value needs, as other makers send them
+
+
+def in_length(field, length):
+    """The field's value in the form of this length."""
+    return field._replace(data=integers.form(field.kind, field.value < 0, abs(field.value), length))
+
+
+def minus_zero(field, length):
+    return field._replace(value=0, data=integers.form(field.kind, True, 0, length))
+
+
+def all_forms(field):
+    """Every form of a field's value, the shortest first; minus zero is one of 0."""
+    if field.kind is None:
+        return [field]
+    shortest = integers.shortest_length(field.kind, abs(field.value))
+    forms = [in_length(field, length) for length in range(shortest, field.kind.longest + 1)]
+    if field.kind.signed and field.value == 0:
+        forms += [minus_zero(field, length) for length in range(1, field.kind.longest + 1)]
+    return forms
+
+
+def longer(field, more=1):
+    """The field by so many bytes longer, as far as its kind goes."""
+    if field.kind is None:
+        return field
+    return in_length(field, min(len(field.data) + more, field.kind.longest))
+
+
+def all_longer(fields, more=1):
+    return [longer(field, more) for field in fields]
+
+
+MOST_PADDING = U8.longest - 1
+
+
+def randomly_padded(rng, fields):
+    """Each field in any of its forms."""
+    return [rng.choice(all_forms(field)) for field in fields]
+
+
+def padded_to(fields, length):
+    """The fields padded from the front on, so that their message has just this length."""
+    missing = length - len(touch_of(fields))
+    result = []
+    for field in fields:
+        result.append(longer(field, missing))
+        missing -= len(result[-1].data) - len(field.data)
+    assert missing == 0
+    return result
+
+
+def touch_of(fields):
+    return message(messages.TOUCH, body_of(fields))
+
+
 # Damage
 
 

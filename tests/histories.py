@@ -15,6 +15,7 @@ from reference.keeper import (
     no_id_twice,
     positions_obey,
 )
+from reference.refusals import NOT_SHORTEST
 
 IGNORING = "ignoring"
 STARTS = (OUT, HOVERING, ENGAGED)
@@ -47,19 +48,39 @@ class Coverage:
             corpus.report(f"  {word} of flags while ignoring        {len(runs) - judged} of {8 ** length}")
 
 
+def without_padding(message):
+    """A message as it is, but an empty one, which is always refused, for one that a strict reading refuses by 6."""
+    refusal = messages.plain_strictly(message, bytearray(programs.LENT_TO_READERS)).refusal
+    return b"" if refusal == NOT_SHORTEST else message
+
+
 class History:
-    """Entries for one fresh receiver, and what the reference makes of them."""
+    """Entries for one fresh receiver, and what the reference makes of them.
+
+    'receiver' gets all of them. 'keeper' is what frames are chosen by. It gets no
+    padded message until it is told to follow: the histories were made up when
+    those were refused, and are to stay as they are.
+    """
 
     def __init__(self):
         self.entries = []
+        self.receiver = receiver.Receiver()
         self.keeper = receiver.Receiver()
+        self.following = False
         self.coverage = Coverage()
         self.tracks = {}  # id: its flags in consecutive frames, the first with what it started from
 
+    def follow(self):
+        """From here on frames are chosen by the receiver that gets everything."""
+        self.keeper = self.receiver
+        self.following = True
+
     def send(self, message):
         self.entries.append(message)
-        before = self.keeper
-        self.keeper, answer = receiver.receive(before, message, bytearray(programs.LENT_TO_READERS))
+        before = self.receiver
+        self.receiver, answer = receiver.receive(before, message, bytearray(programs.LENT_TO_READERS))
+        chosen_by = message if self.following else without_padding(message)
+        self.keeper, _ = receiver.receive(self.keeper, chosen_by, bytearray(programs.LENT_TO_READERS))
         if answer.refusal == 0 and message[0] == messages.TOUCH:
             self.watch_frames(before, messages.read_touch(message).frames)
         elif answer.refusal == 0 and message[0] == messages.DISMISS:

@@ -12,9 +12,11 @@ import random
 import batches
 import corpus
 import make_bench
+import padded_play
 from batches import AMPLE, HIGHEST_PLACES, HIGHEST_ROOM, MOST_PLACES, MOST_ROOM, Host, mixture, one, room_for
 from corpus import client_ready, contact, dismiss, frame, message, touch
 from make_bench import EXAMPLE, IDS, TOUCH, V100, V101
+from padded_play import padded, with_minus_zero
 from reference import entries, integers, programs
 from reference.integers import U8
 
@@ -44,7 +46,7 @@ def unready(host):
     faulty = list(make_bench.before_ready(READY))
     for at in range(0, len(faulty), 40):
         _, refusals = host.send(faulty[at : at + 40])
-        assert 0 not in refusals and not host.keeper.ready
+        assert 0 not in refusals and not host.receiver.ready
 
 
 def becoming_ready(host, ready):
@@ -201,7 +203,7 @@ def greatest_room(host):
 
 
 def by_refusal():
-    """Messages refused by a ready receiver past its first frame, each with its number."""
+    """Messages for a ready receiver past its first frame, each with its number; padded ones are accepted."""
     full = contact(1, 0x1A, 5, 6, left=0, top=0, right=0, bottom=0, orientation=0, pressure=0)
     fields = corpus.touch_fields(3, [frame(full)])
     names = [field.name for field in fields]
@@ -215,7 +217,7 @@ def by_refusal():
     yield from ((3, each) for each in (READY, message(1, bytes(4)), message(4, b""), message(5, b""), message(7, b"")))
     yield from ((4, each) for each in (UPDATE[:-1], UPDATE + b"\0", dismiss(1) + b"\0"))
     yield from ((5, message(TOUCH, body)) for body in corpus.cut_bodies(fields))
-    yield from ((6, message(TOUCH, body)) for body in corpus.other_form_bodies(fields))
+    yield from ((0, message(TOUCH, body)) for body in corpus.other_form_bodies(fields))
     yield from ((7, over(name, value)) for name, value in (("frameCount", 65), ("contactCount", 64)))
     yield 8, over("fieldsPresent", 8)
     yield from ((9, over("contactFlags", flags)) for flags in (0, 0x1B, 0x18))
@@ -225,12 +227,12 @@ def by_refusal():
 
 
 def damaged_between(host):
-    """Each between two good ones, and all of them in one batch."""
+    """Each between two good ones, and all of them in one batch. A padded one takes the room of the one behind it."""
     host.rest()
     host.accepted(DOWN)
     sent = [(0, UPDATE)]
     for number, faulty in by_refusal():
-        host.fed([0, number, 0], [UPDATE, faulty, UPDATE], room=room_for(4))
+        host.fed([0, number, 0 if number else 13], [UPDATE, faulty, UPDATE], room=room_for(4))
         sent += [(number, faulty), (0, UPDATE)]
     host.fed([number for number, _ in sent], [each for _, each in sent])
     host.accepted(LIFT)
@@ -283,6 +285,45 @@ def held_over(host):
     host.accepted(LIFT, one(0x04, 1))
 
 
+# Padding (request #104)
+
+
+def padded_one(flags, contact_id=1, x=5, y=6, more=1):
+    return padded(frame(contact(contact_id, flags, x, y)), more=more)
+
+
+def padded_entries(host, rng):
+    """Fed like the others: what they write is as long as if they were not padded, and so is the room that it needs."""
+    host.follow()
+    host.rest()
+    for more in padded_play.PADDINGS:
+        down, update, lift = (padded_one(flags, more=more) for flags in (0x19, 0x1A, 0x04))
+        host.accepted(down, update, lift, room=room_for(6))
+        host.accepted(down, UPDATE, lift, DOWN, update, LIFT, room=room_for(12))
+        host.fed([0, 0, 13], [down, update, lift], room=room_for(6) - 1)
+        host.fed([0, 13, 0], [update, padded(frame(), frame(), frame(), more=more), lift], room=room_for(4))
+        host.accepted(down)
+        host.refused([lift], places=0)
+        host.refused([lift], tail=b"\0")
+        host.refused([lift], tail=corpus.cut_entry(lift[:-1]))
+        # A lift beside the stored position cancels; what is padded is ignored, and opens.
+        host.accepted(padded_one(0x04, x=6, more=more), update, lift, padded(time=7, more=more), down, lift)
+    host.accepted(one(0x19, x=0, y=0), with_minus_zero(contact(1, 0x04), ("x", "y"), 1), room=room_for(4))
+    host.accepted(with_minus_zero(contact(1, 0x19), ("x", "y"), 4), one(0x04, x=0, y=0), room=room_for(4))
+    many = padded_play.many_fields()
+    for length, number in ((4095, 0), (4096, 0), (4097, 2)):
+        sent = [HOVER, corpus.touch_of(corpus.padded_to(many, length)), one(0x0A, 8)]
+        host.fed([0, number, 0], sent, room=room_for(4) + 64 * room_for(5))
+    host.rest()
+    host.accepted(padded_one(0x19))
+    faulty = list(padded_play.faults())
+    for number, each in faulty:
+        host.fed([0, number, 0], [padded_one(0x1A), each, UPDATE], room=room_for(4))
+    host.fed([number for number, _ in faulty] + [0], [each for _, each in faulty] + [padded_one(0x04)])
+    for _ in range(20):
+        mixture(host, rng, IDS, play=padded_play.walk)
+
+
 # Files
 
 
@@ -303,6 +344,7 @@ def main_batches():
     many_entries(host)
     greatest_room(host)
     mixtures(host, rng, IDS, 130)
+    padded_entries(host, random.Random(SEED + 4))
     return host
 
 

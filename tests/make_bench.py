@@ -11,6 +11,7 @@ import os
 import random
 
 import corpus
+import padded_play
 from corpus import client_ready, contact, dismiss, frame, message, touch
 from histories import (
     IGNORING,
@@ -89,8 +90,8 @@ def first_frames(history):
     for body in (
         b"\0\1\1",  # 5: no offset
         b"\0\1\1\x20",  # 5: cut offset
-        b"\0\1\1" + zero,  # 6
-        b"\0\1\1" + one,  # 6 before 11
+        b"\0\1\1" + zero,  # 5: a padded 0, no contact
+        b"\0\1\1" + one,  # 11: a padded 1
         b"\0\1\x40\1",  # 7 before 11
         b"\0\1\1\1",  # 11 before the missing contact
         b"\0\1\1\1\1\x08",  # 11 before 8
@@ -372,6 +373,8 @@ def main_history():
     flag_runs(history, rng, triples, IDS, apart=False)
     walk(history, rng, IDS, 500, faults=0.4)
     walk(history, rng, IDS, 300, faults=0.03)
+    padded_play.all_play(history)
+    padded_play.walk(history, random.Random(SEED + 1), IDS, 250)
     return history
 
 
@@ -410,6 +413,24 @@ def other_history(most, flags, version, begin):
         crowded(history, rng)
         walk(history, rng, ids, 60, faults=0.02)
         crowded(history, rng)
+    return history
+
+
+PADDED_SETTINGS = (
+    # The length of the first frame's offset, ready flags
+    (2, 0),
+    (8, 1),
+    (5, 2),
+)
+
+
+def padded_history(length, flags):
+    """Padded from the first frame on."""
+    history = History()
+    history.follow()
+    history.send(client_ready(flags, V101, 10))
+    padded_play.first_frames(history, length, judged=flags != 2)
+    padded_play.walk(history, random.Random(f"{SEED} {length} {flags}"), IDS, 40)
     return history
 
 
@@ -454,6 +475,10 @@ def main():
         other = other_history(*settings)
         total.merge(other.coverage)
         texts.append(write_more(more, "most{}-flags{}".format(*settings), corpus.joined(other.entries)))
+    for settings in PADDED_SETTINGS:
+        other = padded_history(*settings)
+        total.merge(other.coverage)
+        texts.append(write_more(more, "padded-offset{}-flags{}".format(*settings), corpus.joined(other.entries)))
     for name, data in small_inputs():
         texts.append(write_more(more, name, data))
     corpus.report(f"all {len(texts)} files")

@@ -1,9 +1,13 @@
-"""Writes the corpus of 'in_place': the rules' example after some refused entries, and a few hundred entries more, for one receiver."""
+"""Writes the corpus of 'in_place': the rules' example after some refused entries, and some hundred entries more, for one receiver.
+
+The program feeds the file to one receiver by each of two calls, so its lines stand there twice.
+"""
 
 import random
 
 import corpus
 import make_bench
+import padded_play
 from histories import History
 from reference import programs
 
@@ -18,6 +22,11 @@ def history():
     make_bench.example(sent)
     make_bench.dismissals(sent, rng)
     make_bench.walk(sent, rng, make_bench.IDS, 250)
+    sent.follow()
+    padded_play.rest(sent)
+    padded_play.strokes(sent)
+    padded_play.faults_between(sent)
+    padded_play.walk(sent, random.Random(SEED + 1), make_bench.IDS, 60)
     return sent
 
 
@@ -26,7 +35,7 @@ def main():
     sent = history()
     stdin = corpus.joined(sent.entries, corpus.cut_entry(corpus.dismiss(1)))
     stdout = programs.in_place(stdin)
-    corpus.write_files(directory, {"stdin": stdin, "stdout": stdout})
+    corpus.write_files(directory, {"stdin": stdin, "stdout": stdout * 2})
     corpus.report_refusals(stdout)
     sent.coverage.report()
 

@@ -1,9 +1,9 @@
-"""Writes OUTDIR/stdin and OUTDIR/stdout for the program 'plain'."""
+"""Writes OUTDIR/stdin and OUTDIR/stdout for the program 'plain'. The program 'strict' has the same input."""
 
 import random
 
 import corpus
-from corpus import contact, frame, message, touch
+from corpus import all_longer, contact, frame, longer, message, minus_zero, touch, touch_fields, touch_of
 from reference import entries, house, integers, programs
 from reference.integers import S2, S4, U2, U4, U8
 
@@ -12,6 +12,8 @@ TOUCH = 3
 
 FULL = contact(9, 0x19, -40, 3000, left=-5, top=-70, right=5, bottom=70, orientation=300, pressure=40000)
 SMALL = contact(1, 0x0A, 0, 1)
+# Every integer of one byte.
+LITTLE = contact(9, 0x19, 3, -4, left=-5, top=6, right=7, bottom=-8, orientation=30, pressure=40)
 
 
 # Good messages
@@ -158,6 +160,7 @@ def cuts():
 
 
 def padded():
+    """Refused by the strict reading alone, but for the cut ones."""
     fields = corpus.touch_fields(0, [frame(FULL), frame(SMALL, offset=9)])
     for body in corpus.other_form_bodies(fields):
         yield message(TOUCH, body)
@@ -183,38 +186,70 @@ def flips():
         yield message(TOUCH, longer + b"\x00\x00")
 
 
-# Bodies with two faults, and the number of the one that answers: the first from the left.
+# Bodies with two faults, and the number of the one that answers, the first from the left: in the strict reading and
+# in the other, to which padding is no fault.
 TWO_FAULTS = (
-    ("00 81 00", 7, "256 frames in their only form, none of them there"),
-    ("00 80 41", 6, "65 frames, padded"),
-    ("00 41", 7, "65 frames, none of them there"),
-    ("00 01 40", 7, "64 contacts, and no offset"),
-    ("00 01 80 40", 6, "64 contacts, padded"),
-    ("00 01 01 00 05 08", 8, "fieldsPresent 8, then cut"),
-    ("00 01 01 00 05 80 08", 6, "fieldsPresent 8, padded"),
-    ("00 01 01 00 05 00 00 00 1B 00", 9, "flags not in the table, then a byte added"),
-    ("00 01 01 00 05 00 20 00 1B", 6, "x minus zero, then flags not in the table"),
-    ("00 01 01 00 05 00 00 20 1B", 6, "y minus zero, then flags not in the table"),
-    ("00 01 01 00 05 00 00 00 40 1B", 6, "flags not in the table, padded"),
-    ("00 01 01 00 05 00 00 00 80 1B", 5, "flags not in the table, padded, cut"),
-    ("00 01 01 00 05 02 00 00 1B 41 68", 9, "flags not in the table, then orientation 360"),
-    ("00 01 01 00 05 06 00 00 19 41 68", 10, "orientation 360, then cut"),
-    ("00 01 01 00 05 06 00 00 19 80 01 68 00", 6, "orientation 360, padded"),
-    ("00 01 01 00 05 06 00 00 19 41 67 80 FD E9 00", 10, "pressure 65001, then a byte added"),
-    ("00 01 01 00 05 06 00 00 19 41 67 C0 00 FD", 5, "pressure padded, cut"),
-    ("00 01 01 00 05 01 00 00 19 40 00 00 00", 6, "left minus zero"),
-    ("00 01 01 00 05 01 00 00 19 00 00 00 40", 6, "bottom minus zero"),
-    ("00 01 01 00 05 01 00 00 19 00 00 00", 5, "bottom missing"),
-    ("00 02 00 00", 5, "second frame missing"),
-    ("00 02 00 00 40 00", 7, "second frame of 64 contacts, cut"),
-    ("00 00 00", 12, "a byte after no frames"),
-    ("20 00", 0, "no fault: encodeTime 32"),
-    ("40 20 00", 6, "encodeTime 32, padded"),
+    ("00 81 00", 7, 7, "256 frames in their only form, none of them there"),
+    ("00 80 41", 6, 7, "65 frames, padded"),
+    ("00 41", 7, 7, "65 frames, none of them there"),
+    ("00 01 40", 7, 7, "64 contacts, and no offset"),
+    ("00 01 80 40", 6, 7, "64 contacts, padded"),
+    ("00 01 01 00 05 08", 8, 8, "fieldsPresent 8, then cut"),
+    ("00 01 01 00 05 80 08", 6, 8, "fieldsPresent 8, padded"),
+    ("00 01 01 00 05 00 00 00 1B 00", 9, 9, "flags not in the table, then a byte added"),
+    ("00 01 01 00 05 00 20 00 1B", 6, 9, "x minus zero, then flags not in the table"),
+    ("00 01 01 00 05 00 00 20 1B", 6, 9, "y minus zero, then flags not in the table"),
+    ("00 01 01 00 05 00 00 00 40 1B", 6, 9, "flags not in the table, padded"),
+    ("00 01 01 00 05 00 00 00 80 1B", 5, 5, "flags not in the table, padded, cut"),
+    ("00 01 01 00 05 02 00 00 1B 41 68", 9, 9, "flags not in the table, then orientation 360"),
+    ("00 01 01 00 05 06 00 00 19 41 68", 10, 10, "orientation 360, then cut"),
+    ("00 01 01 00 05 06 00 00 19 80 01 68 00", 6, 10, "orientation 360, padded"),
+    ("00 01 01 00 05 06 00 00 19 41 67 80 FD E9 00", 10, 10, "pressure 65001, then a byte added"),
+    ("00 01 01 00 05 06 00 00 19 41 67 C0 00 FD", 5, 5, "pressure padded, cut"),
+    ("00 01 01 00 05 01 00 00 19 40 00 00 00", 6, 0, "left minus zero"),
+    ("00 01 01 00 05 01 00 00 19 00 00 00 40", 6, 0, "bottom minus zero"),
+    ("00 01 01 00 05 01 00 00 19 00 00 00", 5, 5, "bottom missing"),
+    ("00 02 00 00", 5, 5, "second frame missing"),
+    ("00 02 00 00 40 00", 7, 7, "second frame of 64 contacts, cut"),
+    ("00 00 00", 12, 12, "a byte after no frames"),
+    ("20 00", 0, 0, "no fault: encodeTime 32"),
+    ("40 20 00", 6, 0, "encodeTime 32, padded"),
+)
+
+# The same with padding before, at and behind another fault.
+PADDED_FAULTS = (
+    ("40 00 41", 6, 7, "encodeTime padded, then 65 frames"),
+    ("40 00 01", 6, 5, "encodeTime padded, then no frame"),
+    ("40 00 00 00", 6, 12, "encodeTime padded, then a byte after no frames"),
+    ("C0 00 00", 5, 5, "encodeTime padded, cut"),
+    ("00 80 00", 6, 0, "no frames, padded"),
+    ("00 80 00 00", 6, 12, "no frames, padded, then a byte"),
+    ("00 01 40 20 00", 7, 7, "64 contacts, then the offset padded"),
+    ("00 01 80 40 20 00", 6, 7, "64 contacts, padded, then the offset padded"),
+    ("00 02 00 20 00 40", 6, 7, "the first offset padded, then 64 contacts"),
+    ("00 01 01 20 00 05 08", 6, 8, "offset padded, then fieldsPresent 8"),
+    ("00 01 01 00 05 80 08 60 00", 6, 8, "fieldsPresent 8, padded, then x padded"),
+    ("00 01 01 00 05 08 60 00 00 19", 8, 8, "fieldsPresent 8, then x padded"),
+    ("00 01 01 00 05 00 60 00 00 1B", 6, 9, "x padded, then flags not in the table"),
+    ("00 01 01 00 05 00 00 A0 00 00", 6, 5, "y minus zero of three bytes, then no flags"),
+    ("00 01 01 00 05 00 00 A0 00", 5, 5, "y minus zero, cut"),
+    ("00 01 01 00 05 02 00 00 1B 40 00", 9, 9, "flags not in the table, then orientation padded"),
+    ("00 01 01 00 05 02 00 00 40 19 41 68", 6, 10, "flags padded, then orientation 360"),
+    ("00 01 01 00 05 02 00 00 19 C0 00 01 68", 6, 10, "orientation 360, of four bytes"),
+    ("00 01 01 00 05 02 00 00 19 C0 00 01 67", 6, 0, "orientation 359, of four bytes"),
+    ("00 01 01 00 05 06 00 00 19 41 68 40 00", 10, 10, "orientation 360, then pressure padded"),
+    ("00 01 01 00 05 06 00 00 19 80 01 67 80 FD E9", 6, 10, "orientation padded, then pressure 65001"),
+    ("00 01 01 00 05 04 00 00 19 C0 00 FD E9", 6, 10, "pressure 65001, padded"),
+    ("00 01 01 00 05 04 00 00 19 C0 00 FD E8", 6, 0, "pressure 65000, padded"),
+    ("00 01 01 00 05 04 00 00 19 C0 00 FD E8 00", 6, 12, "pressure 65000, padded, then a byte"),
+    ("00 01 01 00 05 01 00 00 19 40 00 00", 6, 5, "left minus zero, then no bottom"),
+    ("00 01 01 00 05 01 00 00 19 00 00 00 C0", 5, 5, "bottom minus zero, cut"),
+    ("00 01 01 00 05 01 00 00 19 00 00 00 C0 00", 6, 0, "bottom minus zero of two bytes"),
 )
 
 
 def two_faults():
-    for text, _, _ in TWO_FAULTS:
+    for text, _, _, _ in TWO_FAULTS:
         yield message(TOUCH, bytes.fromhex(text))
 
 
@@ -227,24 +262,194 @@ def random_ones(rng):
         yield rng.randbytes(rng.randint(0, 40))
 
 
+# Padding (request #104)
+
+
+# encodeTime and a frame: every integer 0 or as small as it can be, at the end of one byte, and beyond it.
+LADDER = (
+    (0, frame(contact(0, 0x19, 0, 0, left=0, top=0, right=0, bottom=0, orientation=0, pressure=0))),
+    (1, frame(LITTLE, offset=1)),
+    (63, frame(contact(7, 0x1A, 31, -31, left=63, top=-63, right=1, bottom=0, orientation=63, pressure=63), offset=31)),
+    (64, frame(contact(7, 0x0A, -32, 32, left=0, top=9, right=0, bottom=9, orientation=64, pressure=64), offset=32)),
+    (16383, frame(contact(7, 0x24, 8191, -8191, orientation=359, pressure=16383), offset=8191)),
+    (16384, frame(contact(255, 0x22, -8192, 8192, orientation=359, pressure=65000), offset=1 << 45)),
+)
+
+
+def each_alone():
+    """Every integer by itself in every longer form, and minus zero at every length."""
+    for time, one in LADDER:
+        for body in corpus.other_form_bodies(touch_fields(time, [one])):
+            yield message(TOUCH, body)
+    for length in range(1, U8.longest):
+        for offset in (U8.largest(length), U8.largest(length) + 1):
+            fields = touch_fields(0, [frame(), frame(offset=offset)])
+            for form in corpus.other_forms(fields[-1]):
+                yield message(TOUCH, corpus.with_field(fields, len(fields) - 1, form))
+
+
+def minus_zeros():
+    """The position, the sides, and both at once."""
+    time, zeros = LADDER[0]
+    fields = touch_fields(time, [zeros])
+    for names in (house.POSITION, house.SIDES, house.POSITION + house.SIDES, ("x", "bottom"), ("y", "left")):
+        for length in range(1, S4.longest + 1):
+            yield touch_of(
+                [minus_zero(each, min(length, each.kind.longest)) if each.name in names else each for each in fields]
+            )
+
+
+def all_at_once():
+    frames = [one for _, one in LADDER]
+    for more in (1, 2, 3, corpus.MOST_PADDING):
+        for time, one in LADDER:
+            yield touch_of(all_longer(touch_fields(time, [one]), more))
+        yield touch_of(all_longer(touch_fields(0, frames), more))
+        yield touch_of(all_longer(touch_fields(9, [frame(), *frames, frame(*[LITTLE] * 3)]), more))
+        yield touch_of(all_longer(touch_fields(0, []), more))
+        yield touch_of(all_longer(touch_fields(0, [frame()] * 64), more))
+
+
+def padded_limits():
+    """Counts, ranges, flags: padding changes neither side of a limit."""
+    for name, values in (
+        ("frameCount", (0, 1, 2, 64, 65, 127)),
+        ("contactCount", (0, 1, 2, 63, 64, 127)),
+        ("fieldsPresent", (0, 7, 8, 127)),
+        ("contactFlags", (*range(64), 0x59, 0x119, 0x4019)),
+        ("orientation", (0, 359, 360, 16384)),
+        ("pressure", (0, 65000, 65001, 65536)),
+    ):
+        for value in values:
+            fields = touch_fields(1, [frame(LITTLE)])
+            at = [field.name for field in fields].index(name)
+            fields[at] = corpus.integer_field(name, fields[at].kind, value)
+            for form in corpus.all_forms(fields[at])[1:]:
+                yield touch_of(fields[:at] + [form] + fields[at + 1 :])
+    for count in (63, 64):
+        yield from counts_padded([frame(*(contact(each, 0x19) for each in range(count)))])
+    for count in (64, 65):
+        yield from counts_padded([frame()] * count)
+        yield from counts_padded([frame(SMALL, offset=3)] * count)
+
+
+def counts_padded(frames):
+    """The counts alone, then every integer."""
+    fields = touch_fields(0, frames)
+    yield touch_of([longer(each) if each.name in ("frameCount", "contactCount") else each for each in fields])
+    yield touch_of(all_longer(fields))
+    yield touch_of(all_longer(fields, corpus.MOST_PADDING))
+
+
+def long_padded():
+    """4,096 bytes are read, however little they say; 4,097 are not, padded or not."""
+    crowd = touch_fields(0, [frame(*(contact(each, 0x0A) for each in range(60)))] * 6)
+    wide = touch_fields(0, [frame(*[LITTLE] * 14, offset=n) for n in range(10)])
+    for fields in (crowd, wide):
+        for length in (4095, 4096, 4097):
+            yield touch_of(corpus.padded_to(fields, length))
+        # 5 and 12 at 4,096 bytes; 2 comes before 12.
+        yield message(TOUCH, corpus.body_of(corpus.padded_to(fields, 4097))[:-1])
+        yield message(TOUCH, corpus.body_of(corpus.padded_to(fields, 4095)) + b"\0")
+        yield message(TOUCH, corpus.body_of(corpus.padded_to(fields, 4096)) + b"\0")
+    for length in (4094, 4095, 4096):
+        fields = touch_fields(0, corpus.stretched(most_records(), length))
+        for padded_length in (4095, 4096, 4097):
+            if padded_length > length:
+                yield touch_of(corpus.padded_to(fields, padded_length))
+    # One minus zero of one byte: as long as it was.
+    for length in (4096, 4097):
+        fields = touch_fields(0, corpus.stretched(most_records(), length))
+        at = [(field.name, field.value) for field in fields].index(("x", 0))
+        yield touch_of(fields[:at] + [minus_zero(fields[at], 1)] + fields[at + 1 :])
+
+
+def padded_faults():
+    for text, _, _, _ in PADDED_FAULTS:
+        yield message(TOUCH, bytes.fromhex(text))
+
+
+def faults_beside_padding():
+    """Each fault with each integer padded: before it, itself, behind it."""
+    good = touch_fields(1, [frame(LITTLE)])
+    for name, value in (
+        ("frameCount", 65),
+        ("contactCount", 64),
+        ("fieldsPresent", 8),
+        ("contactFlags", 0x1B),
+        ("orientation", 360),
+        ("pressure", 65001),
+    ):
+        at = [field.name for field in good].index(name)
+        yield from each_padded(good[:at] + [corpus.integer_field(name, good[at].kind, value)] + good[at + 1 :])
+    for padded_one in each_padded(good):
+        yield message(TOUCH, padded_one[6:] + b"\0")
+        yield message(TOUCH, padded_one[6:-1])
+
+
+def each_padded(fields):
+    """One integer a byte longer, for all that can be."""
+    for at, field in enumerate(fields):
+        if longer(field) != field:
+            yield touch_of(fields[:at] + [longer(field)] + fields[at + 1 :])
+
+
+def padded_cuts():
+    for more in (1, corpus.MOST_PADDING):
+        for body in corpus.cut_bodies(all_longer(touch_fields(1, [frame(LITTLE)]), more)):
+            yield message(TOUCH, body)
+
+
+def another_maker():
+    """-63, 63 and 127 in every field, one byte longer than needed: each field by itself, and all."""
+    for value in (-63, 63, 127, -127):
+        size = abs(value)
+        rectangle = {"left": value, "top": -value, "right": value, "bottom": -value}
+        one = frame(contact(size, 0x1A, value, -value, **rectangle, orientation=size, pressure=size), offset=size)
+        fields = touch_fields(size, [one])
+        yield touch_of(all_longer(fields))
+        yield from each_padded(fields)
+
+
+def random_padded(rng):
+    for _ in range(120):
+        fields = touch_fields(corpus.random_value(rng, U4), corpus.random_frames(rng, 3, 3))
+        yield touch_of(corpus.randomly_padded(rng, fields))
+    for _ in range(160):
+        fields = touch_fields(corpus.random_value(rng, U4), corpus.random_frames(rng, 3, 3))
+        yield corpus.damaged(rng, touch_of(corpus.randomly_padded(rng, fields)))
+
+
+# Files
+
+
 def all_messages():
     rng = random.Random(SEED)
     for group in (good_shapes, extremes, limits, long_messages, headers, cuts, padded, added, flips, two_faults):
         yield from group()
     yield from random_ones(rng)
+    for group in (each_alone, minus_zeros, all_at_once, padded_limits, long_padded, padded_faults):
+        yield from group()
+    for group in (faults_beside_padding, padded_cuts, another_maker):
+        yield from group()
+    yield from random_padded(random.Random(SEED + 1))
+
+
+def input_of(payloads):
+    """The last entry is cut inside its two length bytes."""
+    return corpus.joined(payloads, b"\x00")
 
 
 def main():
     directory = corpus.output_directory()
     payloads = list(all_messages())
-    # The last entry is cut inside its two length bytes.
-    stdin = corpus.joined(payloads, b"\x00")
+    stdin = input_of(payloads)
     stdout = programs.plain(stdin)
     corpus.write_files(directory, {"stdin": stdin, "stdout": stdout})
     corpus.report_refusals(stdout)
-    accepted = [line.split(" ") for line in stdout.splitlines() if line.endswith((" same", " differs"))]
+    accepted = [line.split(" ") for line in stdout.splitlines() if line.split(" ")[1] == "0"]
     lengths = [len(each) for each in payloads]
-    corpus.report(f"  written back the same {stdout.count(' same')}, differing {stdout.count(' differs')}")
+    corpus.report(f"  written back the same {stdout.count(' same')}, becoming another {stdout.count(' becomes')}")
     corpus.report(f"  most records of one message {max(int(words[3]) for words in accepted)}")
     corpus.report(f"  messages of 4096 bytes {lengths.count(4096)}, of 4097 {lengths.count(4097)}")
 

@@ -34,7 +34,12 @@ FOLLOWERS = (b"", b"\x00", b"\xff\x7f\x80", b"\x19\x04")
 
 
 def read_payload(kind, rest):
+    """The strict reading."""
     return b"r" + bytes([KINDS.index(kind)]) + rest
+
+
+def any_length_payload(kind, rest):
+    return b"a" + read_payload(kind, rest)[1:]
 
 
 def sign_and_magnitude(value, length):
@@ -304,7 +309,52 @@ def unknown(rng):
         yield b"r" + bytes([kind])
 
 
+# The reading of any length (request #104)
+
+
+def forms(kind):
+    """At every length the ends of that and of each shorter one, with both signs; so minus zero too, and padding."""
+    for length in range(1, kind.longest + 1):
+        for shortest in range(1, length + 1):
+            least = kind.largest(shortest - 1) + 1 if shortest > 1 else 0
+            for magnitude in (least, least + 1, kind.largest(shortest)):
+                for negative in (False, True) if kind.signed else (False,):
+                    yield integers.form(kind, negative, magnitude, length)
+
+
+def rests(kind):
+    """Each form by itself, with bytes behind it, and cut everywhere."""
+    for data in forms(kind):
+        yield data
+        yield data + b"\x80\x01"
+        yield from (data[:length] for length in range(len(data)))
+
+
+def any_lengths(rng):
+    for kind in KINDS:
+        for data in rests(kind):
+            yield any_length_payload(kind, data)
+            yield read_payload(kind, data)
+        for _ in range(40):
+            data = rng.randbytes(rng.randint(1, 9))
+            yield any_length_payload(kind, data)
+            yield read_payload(kind, data)
+    yield b"a"
+    for kind in (5, 6, 255):
+        yield b"a" + bytes([kind])
+        yield b"a" + bytes([kind]) + b"\x00"
+
+
 def all_payloads():
+    """What is read strictly is read in any length as well, and nothing of that twice."""
+    payloads = list(payloads_but_any_length())
+    known = set(payloads)
+    more = [b"a" + payload[1:] for payload in payloads if payload[:1] == b"r"]
+    more += any_lengths(random.Random(SEED + 1))
+    return payloads + [payload for payload in dict.fromkeys(more) if payload not in known]
+
+
+def payloads_but_any_length():
     rng = random.Random(SEED)
     yield from examples()
     for kind in KINDS:
@@ -340,7 +390,7 @@ def outcome(shape, words):
 
 def main():
     directory = corpus.output_directory()
-    payloads = list(all_payloads())
+    payloads = all_payloads()
     stdin = corpus.joined(payloads, corpus.cut_entry(write_payload(U2, 1, 4)[:-1]))
     stdout = programs.vectors(stdin)
     corpus.write_files(directory, {"stdin": stdin, "stdout": stdout})

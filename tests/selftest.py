@@ -7,8 +7,10 @@ import corpus
 import make_batch
 import make_panel
 import make_plain
+import padded_play
 import panels
 from corpus import contact, frame
+from histories import History
 from reference import entries, house, integers, messages, panel, programs, receiver
 from reference.batch import Batch, receive_all
 from reference.integers import S2, S4, U2, U4, U8
@@ -49,6 +51,37 @@ EXAMPLES = (
     (U8, 32, "20 20"),
 )
 
+# Longer forms, and minus zero: the strict reading refuses them by 6.
+PADDED = (
+    (U2, 0, "80 00"),
+    (U2, 0x1A, "80 1A"),
+    (U2, 0x7F, "80 7F"),
+    (S2, -2, "C0 02"),
+    (S2, 63, "80 3F"),
+    (S2, -63, "C0 3F"),
+    (S2, 0, "40"),
+    (S2, 0, "80 00"),
+    (S2, 0, "C0 00"),
+    (U4, 0x1A1B, "80 1A 1B"),
+    (U4, 0x1A1B1C, "C0 1A 1B 1C"),
+    (U4, 127, "80 00 7F"),
+    (U4, 0, "C0 00 00 00"),
+    (S4, -2, "60 02"),
+    (S4, -2, "A0 00 02"),
+    (S4, -2, "E0 00 00 02"),
+    (S4, -63, "A0 00 3F"),
+    (S4, 127, "80 00 7F"),
+    (S4, 0x1A1B1C, "C0 1A 1B 1C"),
+    (S4, 0, "20"),
+    (S4, 0, "60 00"),
+    (S4, 0, "A0 00 00"),
+    (S4, 0, "E0 00 00 00"),
+    (U8, 0, "20 00"),
+    (U8, 31, "40 00 1F"),
+    (U8, 0x1A1B1C1D1E1F2A, "E0 1A 1B 1C 1D 1E 1F 2A"),
+    (U8, 1, "E0 00 00 00 00 00 00 01"),
+)
+
 RANGES = (
     (U2, 0, 0x7FFF),
     (S2, -0x3FFF, 0x3FFF),
@@ -62,16 +95,23 @@ def check_integers():
     for kind, value, text in EXAMPLES:
         data = bytes.fromhex(text)
         same(f"{kind.name} {value} written", integers.encode(kind, value), data)
+        for strict in (False, True):
+            same(f"{kind.name} {text} read", integers.read(kind, data + b"\xff", strict), (value, len(data)))
+            same(f"{kind.name} {text} cut", refusal_of(lambda: integers.read(kind, data[:-1], strict)), 5)
+    for kind, value, text in PADDED:
+        data = bytes.fromhex(text)
         same(f"{kind.name} {text} read", integers.read(kind, data + b"\xff"), (value, len(data)))
-        same(f"{kind.name} {text} cut", refusal_of(lambda: integers.read(kind, data[:-1])), 5)
-    same("S2 minus zero", refusal_of(lambda: integers.read(S2, b"\x40")), 6)
+        same(f"{kind.name} {text} strictly", refusal_of(lambda: integers.read(kind, data + b"\xff", strict=True)), 6)
+        for strict in (False, True):
+            same(f"{kind.name} {text} cut", refusal_of(lambda: integers.read(kind, data[:-1], strict)), 5)
     for kind, lowest, highest in RANGES:
         same(f"{kind.name} range", (kind.lowest, kind.highest), (lowest, highest))
         for value in (lowest - 1, highest + 1):
             same(f"{kind.name} {value}", refusal_of(lambda: integers.encode(kind, value)), 10)
         for value in (lowest, highest):
             data = integers.encode(kind, value)
-            same(f"{kind.name} {value}", integers.read(kind, data), (value, len(data)))
+            for strict in (False, True):
+                same(f"{kind.name} {value}", integers.read(kind, data, strict), (value, len(data)))
 
 
 def check_integer_writers():
@@ -84,14 +124,51 @@ def check_integer_writers():
 
 
 def check_every_short_reading():
-    """Over all one- and two-byte integers: a reading is accepted exactly if writing gives it back."""
+    """Over all one- and two-byte integers: each is accepted, but strictly exactly if writing gives it back."""
     for kind in (U2, S2):
         for number in range(0x10000):
             data = number.to_bytes(2, "big")
-            value = integers.meaning(kind, data if number >= 0x8000 else data[:1])
+            value, length = integers.read(kind, data)
+            same(f"{kind.name} {data.hex()}", (value, length), short_meaning(kind, number))
             only = integers.encode(kind, value)
-            accepted = data.startswith(only) and len(only) == 1 + (number >> 15)
-            same(f"{kind.name} {data.hex()}", refusal_of(lambda: integers.read(kind, data)), 0 if accepted else 6)
+            accepted = data.startswith(only) and len(only) == length
+            strictly = refusal_of(lambda: integers.read(kind, data, strict=True))
+            same(f"{kind.name} {data.hex()} strictly", strictly, 0 if accepted else 6)
+
+
+def short_meaning(kind, number):
+    """The value and the length of the integer at the front of 16 bits."""
+    length = 2 if number & 0x8000 else 1
+    sign_bit = 0x4000 if kind.signed else 0
+    magnitude = (number & 0x7FFF & ~sign_bit) >> (0 if length == 2 else 8)
+    return (-magnitude if number & sign_bit else magnitude), length
+
+
+def check_longer_readings(rng):
+    """Whatever is read and written again is read the same, strictly too, and no form is shorter."""
+    for kind in (U2, S2, U4, S4, U8):
+        for _ in range(500):
+            data = rng.randbytes(8)
+            value, length = integers.read(kind, data)
+            only = integers.encode(kind, value)
+            same(f"{kind.name} {data.hex()} again", integers.read(kind, only, strict=True), (value, len(only)))
+            same(f"{kind.name} {data.hex()} shorter", len(only) <= length, True)
+            same(f"{kind.name} {data.hex()} cut", refusal_of(lambda: integers.read(kind, data[: length - 1])), 5)
+
+
+def check_integer_lines():
+    """The commands 'a' and 'r' of 'vectors'."""
+    for rest, any_length, strict in (
+        ("01 40", "0 1", "refused 6"),
+        ("03 E0 00 00 02 FF", "-2 4", "refused 6"),
+        ("03 E0 00 00", "refused 5", "refused 5"),
+        ("04 DA 1B 1C 1D 1E 1F 2A", f"{0x1A1B1C1D1E1F2A} 7", f"{0x1A1B1C1D1E1F2A} 7"),
+        ("00", "refused 5", "refused 5"),
+        ("05 00", "unknown", "unknown"),
+        ("", "unknown", "unknown"),
+    ):
+        for command, want in ((b"a", any_length), (b"r", strict)):
+            same(f"{command} {rest}", programs.vector_line(command + bytes.fromhex(rest)), want)
 
 
 # The bench example.
@@ -123,8 +200,10 @@ def chunks(data):
 # Both sides of the limits.
 
 
-def plain_refusal(message):
-    return messages.plain(message, bytearray(programs.LENT_TO_READERS)).refusal
+def plain_refusals(message):
+    """The strict reading's, and the other's."""
+    readings = (messages.plain_strictly, messages.plain)
+    return tuple(reading(message, bytearray(programs.LENT_TO_READERS)).refusal for reading in readings)
 
 
 def over(fields, name, value):
@@ -142,21 +221,27 @@ def check_limits():
         ("fieldsPresent", 7, 8, 8),
         ("contactFlags", 0x1A, 0x1B, 9),
     ):
-        same(f"{name} {good}", plain_refusal(over(fields, name, good)), 0)
-        same(f"{name} {bad}", plain_refusal(over(fields, name, bad)), number)
+        same(f"{name} {good}", plain_refusals(over(fields, name, good)), (0, 0))
+        same(f"{name} {bad}", plain_refusals(over(fields, name, bad)), (number, number))
     for count, number in ((63, 0), (64, 7)):
         many = frame(*(contact(each, 0x19) for each in range(count)))
-        same(f"{count} contacts", plain_refusal(corpus.touch(0, [many])), number)
+        same(f"{count} contacts", plain_refusals(corpus.touch(0, [many])), (number, number))
+        padded = padded_play.padded(many)
+        same(f"{count} contacts, padded", plain_refusals(padded), (6, number))
     for count, number in ((64, 0), (65, 7)):
-        same(f"{count} frames", plain_refusal(corpus.touch(0, [frame()] * count)), number)
+        same(f"{count} frames", plain_refusals(corpus.touch(0, [frame()] * count)), (number, number))
+        padded = padded_play.padded(*[frame()] * count)
+        same(f"{count} frames, padded", plain_refusals(padded), (6, number))
     for length, number in ((4096, 0), (4097, 2)):
         long = corpus.touch(0, corpus.stretched(long_frames(), length))
-        same(f"{length} bytes", (len(long), plain_refusal(long)), (length, number))
+        same(f"{length} bytes", (len(long), plain_refusals(long)), (length, (number, number)))
+        padded = corpus.touch_of(corpus.padded_to(padded_play.many_fields(), length))
+        same(f"{length} bytes, padded", (len(padded), plain_refusals(padded)), (length, (number or 6, number)))
 
 
 def check_first_fault_answers():
-    for text, number, why in make_plain.TWO_FAULTS:
-        same(why, plain_refusal(corpus.message(3, bytes.fromhex(text))), number)
+    for text, strict, other, why in make_plain.TWO_FAULTS + make_plain.PADDED_FAULTS:
+        same(why, plain_refusals(corpus.message(3, bytes.fromhex(text))), (strict, other))
 
 
 def long_frames():
@@ -242,6 +327,22 @@ RULES = (
     ("no timestamps", (
         (UNTIMED, ACCEPTED),
         (sent(frame(DOWN, offset=5), time=8), (0, 1, 0, 0, 0, 2)),
+    )),
+    ("padding and minus zero are no fault, and mean what the only form means", (
+        (OPEN, ACCEPTED),
+        # Offset 1 of two bytes, then 0 of two bytes.
+        (bytes.fromhex("03 00 0B 00 00 00 00 01 00 20 01"), (11, 0, 0, 0, 0, 0)),
+        (bytes.fromhex("03 00 10 00 00 00 00 01 01 20 00 01 00 20 00 19"), (0, 1, 0, 0, 0, 2)),
+        # A lift at 0 and minus zero, one at 0 and minus zero of four bytes, one at 1 of two bytes.
+        (bytes.fromhex("03 00 0F 00 00 00 00 01 01 00 01 00 00 20 04"), (0, 1, 0, 0, 0, 2)),
+        (bytes.fromhex("03 00 0F 00 00 00 00 01 01 00 01 00 00 00 19"), (0, 1, 0, 0, 0, 2)),
+        (bytes.fromhex("03 00 12 00 00 00 00 01 01 00 01 00 00 E0 00 00 00 04"), (0, 1, 0, 0, 0, 2)),
+        (bytes.fromhex("03 00 0F 00 00 00 00 01 01 00 01 00 00 00 19"), (0, 1, 0, 0, 0, 2)),
+        (bytes.fromhex("03 00 10 00 00 00 00 01 01 00 01 00 40 01 00 04"), (0, 0, 0, 1, 0, 1)),
+        # encodeTime 7 of two bytes, of an update that is ignored; an opening frame with its flags in four bytes.
+        (bytes.fromhex("03 00 10 00 00 00 40 07 01 01 00 01 00 00 00 1A"), (0, 0, 1, 0, 7, 0)),
+        (bytes.fromhex("03 00 12 00 00 00 00 01 01 00 01 00 00 00 C0 00 00 19"), (0, 1, 0, 0, 0, 2)),
+        (bytes.fromhex("03 00 11 00 00 00 00 01 01 00 01 00 00 00 C0 00 00"), (5, 0, 0, 0, 0, 0)),
     )),
 )
 
@@ -335,11 +436,106 @@ def check_messages():
 
 
 def check_round_trip(rng):
-    """Plain reading, then writing: the same bytes, over messages made field by field."""
+    """Either reading, then writing: the same bytes, over messages made field by field."""
     for _ in range(200):
         message = corpus.touch(corpus.random_value(rng, U4), corpus.random_frames(rng))
         line = programs.plain_line(message)
         same(message.hex(), line.split(" ")[0] + line[-5:], "0 same")
+        same(f"{message.hex()} strictly", programs.strict_line(message), line)
+
+
+# The two readings: a file with its bytes written out, and what 'plain' and 'strict' print for it.
+
+READING_FILE = (
+    ("03 00 08 00 00 00 00 00", "0 0 0 same", "0 0 0 same"),
+    ("03 00 09 00 00 00 40 20 00", "0 32 0 becomes 8", "6 0 0"),
+    ("03 00 0C 00 00 00 C0 00 00 09 80 00", "0 9 0 becomes 8", "6 0 0"),
+    ("03 00 11 00 00 00 00 01 01 00 01 00 40 64 40 32 19", "0 0 2 same", "0 0 2 same"),
+    ("03 00 12 00 00 00 00 01 01 00 01 00 80 00 64 40 32 19", "0 0 2 becomes 17", "6 0 0"),
+    ("03 00 0F 00 00 00 00 01 01 00 01 00 00 00 19", "0 0 2 same", "0 0 2 same"),
+    ("03 00 0F 00 00 00 00 01 01 00 01 00 20 00 19", "0 0 2 becomes 15", "6 0 0"),
+    ("03 00 16 00 00 00 00 01 01 E0 00 00 00 00 00 00 00 01 00 20 00 19", "0 0 2 becomes 15", "6 0 0"),
+    ("03 00 0E 00 00 00 00 01 01 00 01 00 20 00", "5 0 0", "6 0 0"),
+    ("03 00 0F 00 00 00 00 01 01 00 01 00 20 00 1B", "9 0 0", "6 0 0"),
+    ("03 00 0D 00 00 00 00 01 01 00 01 00 60", "5 0 0", "5 0 0"),
+    ("06 00 07 00 00 00 01", "3 0 0", "3 0 0"),
+)
+
+
+def check_reading_file():
+    data = entries.join(bytes.fromhex(text) for text, _, _ in READING_FILE) + b"\0"
+    for program, column in ((programs.plain, 1), (programs.strict, 2)):
+        want = "".join(f"{number} {row[column]}\n" for number, row in enumerate(READING_FILE, 1))
+        same(program.__name__, program(data), want + f"{len(READING_FILE) + 1} cut\n")
+
+
+# The laws of the two readings, over the corpus and over random padding.
+
+
+def check_readings(rng):
+    for message in make_plain.all_messages():
+        check_both_readings(message)
+    for _ in range(200):
+        fields = corpus.touch_fields(corpus.random_value(rng, U4), corpus.random_frames(rng, 3, 3))
+        check_forms(rng, fields)
+
+
+def reading_of(reading, message):
+    """The answer and the whole output, filled beforehand."""
+    output = lent_output(programs.LENT_TO_READERS)
+    return reading(message, output), output
+
+
+def check_both_readings(message):
+    """Padding apart they agree; what is accepted, written back, is read the same, is no longer, and stays as it is."""
+    strict, other = reading_of(messages.plain_strictly, message), reading_of(messages.plain, message)
+    if strict[0].refusal == 6:
+        same("6 has nothing else", strict, ((6, 0, 0), lent_output(programs.LENT_TO_READERS)))
+        same("6 is never the other's", other[0].refusal != 6, True)
+    else:
+        same(f"{message.hex()} in both", other, strict)
+    if other[0].refusal != 0:
+        return
+    back = shortest(message)
+    same(f"{back.hex()} read strictly", reading_of(messages.plain_strictly, back), other)
+    same(f"{back.hex()} read", reading_of(messages.plain, back), other)
+    same(f"{message.hex()} has its only form", back == message, strict[0].refusal == 0)
+    same(f"{message.hex()} is as long", len(back) <= len(message), True)
+    same(f"{back.hex()} again", shortest(back), back)
+
+
+def shortest(message):
+    """An accepted message, read and written back."""
+    answer, output = reading_of(messages.plain, message)
+    return programs.written_back(answer.encode_time, bytes(output[: answer.records * house.LENGTH]))
+
+
+def check_forms(rng, fields):
+    """All forms of one meaning are read the same and become the one that the writer gives."""
+    only = corpus.touch_of(fields)
+    want = reading_of(messages.plain_strictly, only)
+    for _ in range(5):
+        form = corpus.touch_of(corpus.randomly_padded(rng, fields))
+        same(form.hex(), reading_of(messages.plain, form), want)
+        same(f"{form.hex()} becomes", shortest(form), only)
+
+
+def check_padded_receiver(rng):
+    """A receiver makes of a padded message what it makes of the shortest of the same meaning; 6 is never given."""
+    history = History()
+    history.send(corpus.client_ready(0, 0x00010001, 10))
+    padded_play.all_play(history)
+    padded_play.walk(history, rng, list(range(9)), 200)
+    keeper = receiver.Receiver()
+    for message in history.entries:
+        output, other_output = lent_output(programs.LENT_TO_READERS), lent_output(programs.LENT_TO_READERS)
+        accepted = messages.plain(message, bytearray(programs.LENT_TO_READERS)).refusal == 0
+        have = receiver.receive(keeper, message, output)
+        want = receiver.receive(keeper, shortest(message) if accepted else message, other_output)
+        same(message.hex(), (have, output), (want, other_output))
+        same(f"{message.hex()} by 6", have[1].refusal != 6, True)
+        keeper = have[0]
+    same("padded play leaves", keeper, history.receiver)
 
 
 # The panel: a file with its bytes written out, what 'panel' prints for it and what 'sent' writes.
@@ -551,7 +747,7 @@ def check_batch_laws(rng):
             if len(payload) >= 6:
                 room, places = int.from_bytes(payload[:4], "big"), int.from_bytes(payload[4:6], "big")
                 keeper = check_batch(rng, keeper, payload[6:], min(room, 131072), min(places, 4096))
-        same(f"{maker.__name__} leave", keeper, host.keeper)
+        same(f"{maker.__name__} leave", keeper, host.receiver)
 
 
 def check_batch(rng, keeper, buffer, room, places):
@@ -594,6 +790,8 @@ def main():
     check_integers()
     check_integer_writers()
     check_every_short_reading()
+    check_longer_readings(rng)
+    check_integer_lines()
     check_bench_example()
     check_limits()
     check_first_fault_answers()
@@ -604,6 +802,9 @@ def main():
     check_house(rng)
     check_messages()
     check_round_trip(rng)
+    check_reading_file()
+    check_readings(rng)
+    check_padded_receiver(rng)
     check_panel_file()
     check_panel_rules()
     check_panel_output()

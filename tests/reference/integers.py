@@ -1,8 +1,9 @@
-"""The five integers ([MS-RDPEI] 2.2.2.1 to 2.2.2.5), read strictly and written.
+"""The five integers ([MS-RDPEI] 2.2.2.1 to 2.2.2.5), read in any length or strictly, and written.
 
 Byte one holds from the top: the further byte count c, a sign bit where the kind
 is signed, and the most significant value bits. The other bytes follow, most
-significant first. Signed values are sign and magnitude.
+significant first. Signed values are sign and magnitude. No length is demanded
+of a value, so other makers pad; writers use the fewest bytes.
 """
 
 from functools import lru_cache
@@ -74,18 +75,20 @@ def write(kind, out, value):
     return written(out, lambda: encode(kind, value))
 
 
-def read(kind, rest):
+def read(kind, rest, strict=False):
     """The value at the front of the rest of a message, and its length.
 
-    5 comes before 6: an integer cut short is truncated even where the bytes
-    that are left already show that it was padded.
+    Any length that c can say is taken, and minus zero as 0 (request #104); a
+    strict reading takes the only form that a writer gives. 5 comes before 6: an
+    integer cut short is truncated even where the bytes that are left already
+    show that it was padded.
     """
     refuse_unless(len(rest) > 0, TRUNCATED)
     length = (rest[0] >> (8 - kind.c_bits)) + 1
     refuse_unless(len(rest) >= length, TRUNCATED)
     data = bytes(rest[:length])
     value = meaning(kind, data)
-    refuse_unless(data == encode(kind, value), NOT_SHORTEST)
+    refuse_unless(not strict or data == encode(kind, value), NOT_SHORTEST)
     return value, length
 
 

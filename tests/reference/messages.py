@@ -70,16 +70,17 @@ class Plain(NamedTuple):
 
 
 class Body:
-    """What is left of a message. Every field is read from its front."""
+    """What is left of a message. Every field is read from its front; 'strict' is how its integers are read."""
 
-    def __init__(self, rest):
+    def __init__(self, rest, strict):
         self.rest = rest
+        self.strict = strict
 
     def advance(self, length):
         self.rest = self.rest[length:]
 
     def integer(self, kind):
-        value, length = integers.read(kind, self.rest)
+        value, length = integers.read(kind, self.rest, self.strict)
         self.advance(length)
         return value
 
@@ -96,7 +97,7 @@ class Body:
         refuse_unless(len(self.rest) == 0, TRAILING)
 
 
-def open_message(message, taken):
+def open_message(message, taken, strict=False):
     """Checks 1 to 4, in that order; the event and the body. 'taken' are the events taken now."""
     refuse_unless(len(message) >= HEADER_LENGTH, SHORT)
     refuse_unless(len(message) <= LONGEST_MESSAGE, TOO_LONG)
@@ -104,14 +105,14 @@ def open_message(message, taken):
     refuse_unless(event in taken, UNEXPECTED)
     pdu_length = int.from_bytes(message[2:6], "little")
     refuse_unless(pdu_length == len(message), BAD_LENGTH)
-    return event, Body(memoryview(message)[HEADER_LENGTH:])
+    return event, Body(memoryview(message)[HEADER_LENGTH:], strict)
 
 
-def read_message(event, read_body):
+def read_message(event, read_body, strict=False):
     """A reader of one event's whole message."""
 
     def read(message):
-        _, body = open_message(message, (event,))
+        _, body = open_message(message, (event,), strict)
         return read_body(body)
 
     return read
@@ -198,6 +199,7 @@ def ranged(body, highest):
 read_server_ready = read_message(SERVER_READY, server_ready_body)
 read_client_ready = read_message(CLIENT_READY, client_ready_body)
 read_touch = read_message(TOUCH, touch_body)
+read_touch_strictly = read_message(TOUCH, touch_body, strict=True)
 read_suspend = read_message(SUSPEND, header_only_body)
 read_resume = read_message(RESUME, header_only_body)
 read_dismiss = read_message(DISMISS, dismiss_body)
@@ -211,8 +213,17 @@ def frame_records(one):
 
 def plain(message, output):
     """The plain reading: takes only event 3 and doesn't apply 11."""
+    return plain_by(read_touch, message, output)
+
+
+def plain_strictly(message, output):
+    """The plain reading with 6 (request #104): nothing else gives that number."""
+    return plain_by(read_touch_strictly, message, output)
+
+
+def plain_by(read, message, output):
     try:
-        touch = read_touch(message)
+        touch = read(message)
         records = [record for one in touch.frames for record in frame_records(one)]
         put(output, b"".join(records))
     except Refused as refused:

@@ -122,7 +122,7 @@ def batch_lines(number, answer, fed):
     return "\n".join(texts)
 
 
-# plain
+# plain and strict: the two readings of a touch message, and what the touch writer makes of what was read
 
 
 def plain(data):
@@ -130,15 +130,33 @@ def plain(data):
 
 
 def plain_line(message):
+    return reading_line(messages.plain, message, lambda back: f"becomes {len(back)}")
+
+
+def strict(data):
+    return lines(data, strict_line)
+
+
+def strict_line(message):
+    return reading_line(messages.plain_strictly, message, lambda _back: "differs")
+
+
+def reading_line(reading, message, otherwise):
+    """Behind an accepted message 'same' where it is written back to the same bytes."""
     output = bytearray(LENT_TO_READERS)
-    answer = messages.plain(message, output)
+    answer = reading(message, output)
     text = f"{answer.refusal} {answer.encode_time} {answer.records}"
     if answer.refusal != NONE:
         return text
-    again = bytearray(messages.LONGEST_MESSAGE)
-    back = messages.write_touch(again, answer.encode_time, bytes(output[: answer.records * house.LENGTH]))
-    same = back.refusal == NONE and bytes(again[: back.bytes]) == message
-    return text + (" same" if same else " differs")
+    back = written_back(answer.encode_time, bytes(output[: answer.records * house.LENGTH]))
+    return f"{text} {'same' if back == message else otherwise(back)}"
+
+
+def written_back(encode_time, touch_records):
+    """No byte where the writer refuses."""
+    output = bytearray(LENT_TO_TOUCH_WRITER)
+    answer = messages.write_touch(output, encode_time, touch_records)
+    return bytes(output[: answer.bytes])
 
 
 # writer
@@ -248,12 +266,16 @@ def vector_line(payload):
     return (run and run(payload[1:])) or "unknown"
 
 
-def read_line(rest):
+def strict_read_line(rest):
+    return read_line(rest, strict=True)
+
+
+def read_line(rest, strict=False):
     """Kind, then the rest of a message from the integer's first byte."""
     if len(rest) < 1 or rest[0] >= len(integers.KINDS):
         return None
     try:
-        value, length = integers.read(integers.KINDS[rest[0]], rest[1:])
+        value, length = integers.read(integers.KINDS[rest[0]], rest[1:], strict)
     except Refused as refused:
         return f"refused {refused.number}"
     return f"{value} {length}"
@@ -313,7 +335,8 @@ def lent_line(length, write):
 
 
 VECTOR_LINES = {
-    b"r": read_line,
+    b"a": read_line,
+    b"r": strict_read_line,
     b"w": write_line,
     b"h": head_line,
     b"c": contact_line,

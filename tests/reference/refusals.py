@@ -1,6 +1,7 @@
 """The refusal numbers.
 
 Fourteen of the rules ("Refusal numbers and their order"), 15 to 17 of request #101, 18 of request #102.
+Since request #104 6 is given by strict readings alone.
 """
 
 NONE = 0

@@ -1,5 +1,5 @@
 // Runs the integers and the house records over vectors from standard input, one line for each:
-// r an integer read, w an integer written, h a head written, c a contact written, d a record read.
+// r an integer read in its only form, a in any form, w an integer written, h a head written, c a contact written, d a record read.
 mod parse;
 mod print;
 mod records;
@@ -16,7 +16,8 @@ fn run_vector(vector: &[u8]) {
     }
     let body = &vector[1..];
     match vector[0] {
-        b'r' => wholes::run_read(body),
+        b'r' => wholes::run_read(body, true),
+        b'a' => wholes::run_read(body, false),
         b'w' => wholes::run_write(body),
         b'h' => records::run_head(body),
         b'c' => records::run_contact(body),

@@ -8,8 +8,13 @@ use integers::ReadU4;
 use integers::ReadU8;
 use slices::Written;
 
-fn read_small(rest: &[u8]) {
-    match integers::read_u2(rest) {
+fn read_small(rest: &[u8], strictly: bool) {
+    let got = if strictly {
+        integers::read_u2(rest)
+    } else {
+        integers::read_any_u2(rest)
+    };
+    match got {
         ReadU2::Value(v, n) => {
             print::number(v as u64);
             print::number(n as u64);
@@ -18,8 +23,13 @@ fn read_small(rest: &[u8]) {
     }
 }
 
-fn read_side(rest: &[u8]) {
-    match integers::read_s2(rest) {
+fn read_side(rest: &[u8], strictly: bool) {
+    let got = if strictly {
+        integers::read_s2(rest)
+    } else {
+        integers::read_any_s2(rest)
+    };
+    match got {
         ReadS2::Value(v, n) => {
             print::side(v);
             print::number(n as u64);
@@ -28,8 +38,13 @@ fn read_side(rest: &[u8]) {
     }
 }
 
-fn read_middle(rest: &[u8]) {
-    match integers::read_u4(rest) {
+fn read_middle(rest: &[u8], strictly: bool) {
+    let got = if strictly {
+        integers::read_u4(rest)
+    } else {
+        integers::read_any_u4(rest)
+    };
+    match got {
         ReadU4::Value(v, n) => {
             print::number(v as u64);
             print::number(n as u64);
@@ -38,8 +53,13 @@ fn read_middle(rest: &[u8]) {
     }
 }
 
-fn read_place(rest: &[u8]) {
-    match integers::read_s4(rest) {
+fn read_place(rest: &[u8], strictly: bool) {
+    let got = if strictly {
+        integers::read_s4(rest)
+    } else {
+        integers::read_any_s4(rest)
+    };
+    match got {
         ReadS4::Value(v, n) => {
             print::place(v);
             print::number(n as u64);
@@ -48,8 +68,13 @@ fn read_place(rest: &[u8]) {
     }
 }
 
-fn read_wide(rest: &[u8]) {
-    match integers::read_u8(rest) {
+fn read_wide(rest: &[u8], strictly: bool) {
+    let got = if strictly {
+        integers::read_u8(rest)
+    } else {
+        integers::read_any_u8(rest)
+    };
+    match got {
         ReadU8::Value(v, n) => {
             print::number(v);
             print::number(n as u64);
@@ -58,19 +83,19 @@ fn read_wide(rest: &[u8]) {
     }
 }
 
-// The kind, then the rest of a message.
-pub(crate) fn run_read(body: &[u8]) {
+// The kind, then the rest of a message: read strictly in its only form, or in any.
+pub(crate) fn run_read(body: &[u8], strictly: bool) {
     if body.len() < 1 {
         print::word(b"unknown");
         return;
     }
     let rest = &body[1..];
     match body[0] {
-        0 => read_small(rest),
-        1 => read_side(rest),
-        2 => read_middle(rest),
-        3 => read_place(rest),
-        4 => read_wide(rest),
+        0 => read_small(rest, strictly),
+        1 => read_side(rest, strictly),
+        2 => read_middle(rest, strictly),
+        3 => read_place(rest, strictly),
+        4 => read_wide(rest, strictly),
         _ => print::word(b"unknown"),
     }
 }

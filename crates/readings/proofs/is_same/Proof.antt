@@ -1,10 +1,10 @@
--- `plain::is_same` is safe.
+-- `readings::is_same` is safe.
 -- Assumes nothing.
 use borrow.Author.Needs.{needs}
 use mathlib.Core.Path.{sym}
 use lib.Seq.{length-take-le}
-use Rattle.plain.proofs.is_same.Statement.{statement}
-use Rattle.plain.proofs.is_same.Tie as tie
+use Rattle.readings.proofs.is_same.Statement.{statement}
+use Rattle.readings.proofs.is_same.Tie as tie
 
 returns : tie.Need-returns
 returns c = search needs

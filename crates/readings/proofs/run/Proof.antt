@@ -1,4 +1,4 @@
--- `plain::run` is safe and ends: the numbers rise to the last.
+-- `readings::run` is safe and ends: the numbers rise to the last.
 -- Assumes nothing.
 use borrow.Author.Needs.{needs}
 use Prim.Native.Nat.{_-_}
@@ -7,14 +7,14 @@ use native.Mathlib.Omega.{arith}
 use lib.ListN.{length}
 use Rattle.turns.specs.Turns.{Begins}
 use Rattle.turns.proofs.Laws.{rises}
-use Rattle.plain.proofs.run.Statement.{statement}
-use Rattle.plain.proofs.run.Tie as tie
+use Rattle.readings.proofs.run.Statement.{statement}
+use Rattle.readings.proofs.run.Tie as tie
 
 abbrev Inv-loop : tie.InvT-loop
-Inv-loop space₀ page₀ output₀ stand₀ space page output stand = (length space ≡ length space₀) × (length page ≡ length page₀) × (length output ≡ length output₀)
+Inv-loop space₀ page₀ output₀ strictly stand₀ space page output stand = (length space ≡ length space₀) × (length page ≡ length page₀) × (length output ≡ length output₀)
 
 abbrev μ-loop : tie.MeasureT-loop
-μ-loop space₀ page₀ output₀ stand₀ space page output stand = 18446744073709551615 - stand .number
+μ-loop space₀ page₀ output₀ strictly stand₀ space page output stand = 18446744073709551615 - stand .number
 
 -- the entry that was found
 entry : (c : tie.After-known-told Inv-loop μ-loop) →

@@ -16,6 +16,12 @@ static void resize(struct random *random, struct wire *wire)
 			wire_byte(wire, (uint8_t)random_next(random));
 }
 
+/* Ends the message inside its first padded integer: all that is wrong is that bytes are missing, which goes before the padding. */
+static void cut_padded(struct random *random, struct wire *wire)
+{
+	wire->n = wire->padded_at + 1 + random_below(random, wire->padded_bytes - 1);
+}
+
 /* Appends to a length over the most that a message may have. */
 static void make_too_long(struct random *random, struct wire *wire)
 {
@@ -44,7 +50,9 @@ void damage(struct random *random, struct wire *wire)
 	const unsigned kind = random_below(random, 100);
 	const size_t at = wire->n == 0 ? 0 : random_next(random) % wire->n;
 
-	if (kind < 40)
+	if (kind < 15 && wire->padded_bytes > 0)
+		cut_padded(random, wire);
+	else if (kind < 40)
 		resize(random, wire);
 	else if (kind < 60)
 		wire->bytes[at] ^= (uint8_t)(1u << random_below(random, 8));

@@ -3,21 +3,13 @@
  * receivers. Each message that writes is first given too little room, then room enough. Ends with 1 at the first difference, after
  * saying what it is. */
 #include "entries.h"
+#include "output.h"
 #include "same.h"
 
 #include <inttypes.h>
 #include <stdio.h>
 #include <stdlib.h>
 #include <string.h>
-
-/* What the outputs hold where nothing has been written. */
-#define UNTOUCHED UINT64_C(0xA5C35A3CE7187E81)
-enum { OUTPUT_WORDS = KANGIRLO_OUTPUT_MOST / 8 };
-
-union output {
-	uint64_t words[OUTPUT_WORDS];
-	uint8_t bytes[KANGIRLO_OUTPUT_MOST];
-};
 
 /* A call of the product, and what it is lent and answers. */
 struct way {
@@ -48,8 +40,6 @@ struct given {
 	size_t n, room;
 };
 
-static union output untouched;
-
 static struct twin_answer plain(const struct kangirlo_answer *answer)
 {
 	return (struct twin_answer){ answer->refusal, answer->injected, answer->ignored, answer->cancelled, answer->time.value,
@@ -65,10 +55,7 @@ static void stop(const struct given *given, const char *whose, const char *what)
 		same_print(way->name, &answer);
 	}
 	same_print("twin", &twin.answer);
-	fputs("message:", stdout);
-	for (size_t i = 0; i < given->n; i++)
-		printf(" %02X", given->message[i]);
-	putchar('\n');
+	output_print_message(given->message, given->n);
 	exit(1);
 }
 
@@ -76,19 +63,6 @@ static bool same_answer(const struct kangirlo_answer *a, const struct twin_answe
 {
 	return a->refusal == b->refusal && a->injected == b->injected && a->ignored == b->ignored && a->cancelled == b->cancelled &&
 	       a->time.value == b->time && a->records == b->records;
-}
-
-/* Whether the output is as it was, from a byte on. */
-static bool is_untouched(const union output *of, size_t from)
-{
-	size_t i = (from + 7) / 8;
-
-	if (memcmp(of->bytes + from, untouched.bytes + from, i * 8 - from) != 0)
-		return false;
-	while (i < OUTPUT_WORDS)
-		if (of->words[i++] != UNTOUCHED)
-			return false;
-	return true;
 }
 
 /* Compares all that became of a message by one of the calls. Leaves its output untouched again. */
@@ -102,7 +76,7 @@ static void compare(const struct given *given, struct way *way, const struct kan
 		stop(given, way->name, "writes more than there is room");
 	if (memcmp(way->output.bytes, twin.output.bytes, written) != 0)
 		stop(given, way->name, "writes other records than the twin");
-	if (!is_untouched(&way->output, written))
+	if (!output_is_clear(&way->output, written))
 		stop(given, way->name, "touches the output past its records");
 	if (way->answer.refusal != 0 && !same_fields(&way->receiver, before))
 		stop(given, way->name, "refuses, and changes its receiver");
@@ -110,7 +84,7 @@ static void compare(const struct given *given, struct way *way, const struct kan
 		stop(given, way->name, "leaves another receiver than the twin");
 	if (!same_fields(&way->receiver, &ways[0].receiver))
 		stop(given, way->name, "leaves another receiver than the first call");
-	memcpy(way->output.bytes, untouched.bytes, written);
+	output_clear_front(&way->output, written);
 }
 
 /* Lends so much room to all, and compares everything. */
@@ -126,9 +100,9 @@ static void receive(struct given *given, size_t room)
 	for (struct way *way = ways; way < ways + WAYS; way++)
 		compare(given, way, &before);
 	written = twin.answer.records * TWIN_RECORD_BYTES;
-	if (!is_untouched(&twin.output, written))
+	if (!output_is_clear(&twin.output, written))
 		stop(given, "the twin", "touches the output past its records");
-	memcpy(twin.output.bytes, untouched.bytes, written);
+	output_clear_front(&twin.output, written);
 }
 
 /* How many bytes a message would write. The twin is asked; if it is wrong, the calls differ. */
@@ -142,14 +116,12 @@ static size_t need(const struct given *given)
 
 static void begin(void)
 {
-	for (size_t i = 0; i < OUTPUT_WORDS; i++)
-		untouched.words[i] = UNTOUCHED;
 	for (struct way *way = ways; way < ways + WAYS; way++) {
 		way->receiver = kangirlo_fresh();
-		way->output = untouched;
+		output_clear(&way->output);
 	}
 	twin_fresh(&twin.receiver);
-	twin.output = untouched;
+	output_clear(&twin.output);
 }
 
 int main(void)

@@ -17,6 +17,7 @@ struct habits {
 	unsigned lift;          /* chance that a contact that is touched is lifted */
 	unsigned spoil;         /* chance that a frame is made not to conform */
 	unsigned damage;        /* chance that a message is damaged */
+	unsigned pad;           /* chance that a message has integers that are longer than they need be, damaged or not */
 	uint32_t present;       /* the optional fields that it may send */
 };
 

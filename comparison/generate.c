@@ -1,7 +1,14 @@
 /* generate SEED ENTRIES > FILE: a bench file of one client's history, decided by the seed alone.
  *
  * A receiver follows what is written, so that each message can go on from where the history stands. Most messages are what a
- * client may send; between them stand damaged ones, and ones at both sides of every limit. */
+ * client may send; between them stand damaged ones, and ones at both sides of every limit.
+ *
+ * Once its first frame is taken, one client in four never pads an integer; the others do so in one message of ten up to nine of ten, and
+ * before that frame all do so in every other message. In such a message a random choice of the integers, from a few to all, takes more
+ * bytes than it needs, by one byte or up to the most that there are, and a random choice of the zeros that have a sign is minus zero.
+ * That is decided apart from damage, so that padded messages are damaged as often as others, also by an end inside a padded integer, and
+ * messages at both sides of the longest are padded in their contacts. Of all touch messages that are sound about a quarter have an
+ * integer that is not the shortest. */
 #include "damage.h"
 #include "history.h"
 #include "touch.h"
@@ -9,9 +16,10 @@
 #include <stdio.h>
 #include <stdlib.h>
 
-enum { CONTACT_BYTES_MOST = 24, STRAY_FRAMES_MOST = 32 };
+/* A contact's bytes, with the shortest integers and with the longest. */
+enum { CONTACT_BYTES_MOST = 24, CONTACT_BYTES_PADDED = 31, STRAY_FRAMES_MOST = 32 };
 
-/* What may be wrong inside the body of a touch message, beside the form of an integer. */
+/* What may be wrong inside the body of a touch message. That an integer is padded is nothing wrong, and may come with any of these. */
 enum flaw { SOUND, OTHER_FRAMES, OTHER_CONTACTS, MANY_CONTACTS, BAD_VALUE, FLAWS };
 
 /* A value that is not allowed, in one field of a contact. */
@@ -80,7 +88,7 @@ static unsigned write_frames(struct history *history, struct wire *wire, unsigne
 		touch_follow(&ahead, &frame);
 		write_flawed(history, wire, &frame, i == flawed ? flaw : SOUND);
 		if (wire->n > TWIN_MESSAGE_MOST - 16) {
-			wire->n = before;
+			wire_take_back(wire, before);
 			return i;
 		}
 	}
@@ -91,9 +99,10 @@ static unsigned write_frames(struct history *history, struct wire *wire, unsigne
 static unsigned write_strays(struct history *history, struct wire *body, unsigned frames)
 {
 	const size_t enough = TWIN_MESSAGE_MOST - EMPTY_FRAME_MOST * (FRAMES_MOST - STRAY_FRAMES_MOST);
+	const size_t contact = body->padding.padded == WIRE_SHORTEST ? CONTACT_BYTES_MOST : CONTACT_BYTES_PADDED;
 
 	while (body->n < enough && frames < STRAY_FRAMES_MOST) {
-		const size_t fit = (enough - body->n) / CONTACT_BYTES_MOST + 1;
+		const size_t fit = (enough - body->n) / contact + 1;
 		struct frame frame = { .count = 0 };
 
 		while (frame.count < FRAME_CONTACTS_MOST && frame.count < fit)
@@ -125,18 +134,15 @@ static void make_touch(struct history *history, struct wire *wire, enum flaw fla
 	uint64_t frames;
 
 	wire_start(&body);
-	if (wire->fault != WIRE_SOUND && random_chance(random, 800)) {
-		body.fault = wire->fault;
-		body.pass = wire->pass;
-		wire->fault = WIRE_SOUND;
-	}
+	body.padding = wire->padding;
 	frames = write_frames(history, &body, history_frames(history), flaw);
 	if (flaw == OTHER_FRAMES)
 		frames = random_chance(random, 300) ? RANDOM_OF(random, counts) : off_by_one(random, frames);
 	touch_message(wire, history_time(history), frames, &body);
 }
 
-/* A touch message that is sound but for its length: 4,095 to 4,097 bytes. */
+/* A touch message that is sound but for its length: 4,095 to 4,097 bytes. The integers that make the length just so are the shortest:
+ * those of the frames that fill it, and the two in front of them. */
 static void make_longest(struct history *history, struct wire *wire)
 {
 	static struct wire body;
@@ -148,10 +154,12 @@ static void make_longest(struct history *history, struct wire *wire)
 	while (time > wire_greatest(&wire_u4, bytes))
 		bytes++;
 	wire_start(&body);
+	body.padding = wire->padding;
 	history->habits.crowd = FRAME_CONTACTS_MOST;
 	frames = write_frames(history, &body, 8, SOUND);
 	frames = write_strays(history, &body, frames);
 	history->habits = habits;
+	body.padding.padded = wire->padding.padded = WIRE_SHORTEST;
 	frames = fill(history, &body, frames, TWIN_MESSAGE_MOST - 1 - WIRE_HEADER_BYTES - bytes - 1 + random_below(random, 3));
 	touch_message(wire, time, frames, &body);
 }
@@ -171,10 +179,6 @@ static void make_message(struct history *history, struct wire *wire, bool damage
 	const unsigned kind = random_below(random, 1000);
 	const enum flaw flaw = damaged && random_chance(random, 400) ? 1 + random_below(random, FLAWS - 1) : SOUND;
 
-	if (damaged && random_chance(random, 300)) {
-		wire->fault = random_chance(random, 700) ? WIRE_LONGER : WIRE_MINUS_ZERO;
-		wire->pass = random_below(random, random_chance(random, 700) ? 8 : 200);
-	}
 	if (kind < (ready ? 10 : 700))
 		make_ready(history, wire);
 	else if (kind < (ready ? 20 : 800))
@@ -195,6 +199,7 @@ static void write_next(struct history *history)
 	const bool damaged = random_chance(random, history->twin.begun ? history->habits.damage : 300);
 
 	wire_start(&wire);
+	wire.padding = history_padding(history);
 	make_message(history, &wire, damaged);
 	if (damaged && random_chance(random, 500))
 		damage(random, &wire);

@@ -5,7 +5,7 @@ static void choose_habits(struct history *history)
 	static const unsigned mosts[] = { 0, 1, 2, 3, 10, 63, 64, 255, 256, 65535 };
 	static const unsigned pools[] = { 1, 3, 10, 64, 256, 256 }, crowds[] = { 1, 2, 5, 10, 30, 63 };
 	static const unsigned lifts[] = { 10, 100, 400 }, spoils[] = { 0, 5, 30, 150 }, damages[] = { 0, 30, 150, 500 };
-	static const unsigned eagers[] = { 1000, 200, 30 }, hastes[] = { 0, 500, 950 };
+	static const unsigned eagers[] = { 1000, 200, 30 }, hastes[] = { 0, 500, 950 }, pads[] = { 0, 100, 400, 900 };
 	struct random *random = &history->random;
 
 	history->flags = random_below(random, 4);
@@ -21,6 +21,7 @@ static void choose_habits(struct history *history)
 		.lift = RANDOM_OF(random, lifts),
 		.spoil = RANDOM_OF(random, spoils),
 		.damage = RANDOM_OF(random, damages),
+		.pad = RANDOM_OF(random, pads),
 		.present = random_chance(random, 700) ? 7 : random_below(random, 8),
 	};
 }
@@ -46,6 +47,21 @@ void history_ready(struct history *history, uint32_t *flags, uint32_t *version)
 		*flags = RANDOM_OF(random, other_flags);
 	else
 		*version = RANDOM_OF(random, versions);
+}
+
+struct wire_padding history_padding(struct history *history)
+{
+	static const unsigned longers[] = { 0, 20, 100, 400, 1000 }, minuses[] = { 0, 100, 500, 1000 };
+	struct random *random = &history->random;
+
+	if (!random_chance(random, history->twin.begun ? history->habits.pad : 500))
+		return (struct wire_padding){ .padded = WIRE_SHORTEST };
+	return (struct wire_padding){
+		.padded = WIRE_SOME,
+		.random = random,
+		.longer = RANDOM_OF(random, longers),
+		.minus = RANDOM_OF(random, minuses),
+	};
 }
 
 uint64_t history_time(struct history *history)

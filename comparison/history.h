@@ -23,6 +23,10 @@ void history_start(struct history *history, uint64_t seed);
 /* What a client ready says: as a rule what the client is to say, or else flags or a version that is not listed. */
 void history_ready(struct history *history, uint32_t *flags, uint32_t *version);
 
+/* How the integers of a message are padded: not at all, or some of them, from a few to all. Until a first frame is taken every client pads
+ * often, since its offset is judged as no other is. */
+struct wire_padding history_padding(struct history *history);
+
 /* The time and the number of frames of a touch message. */
 uint64_t history_time(struct history *history);
 unsigned history_frames(struct history *history);

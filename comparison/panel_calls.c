@@ -191,7 +191,7 @@ static bool add_frame(struct touch *touch, const struct frame *frame, size_t mos
 
 	touch_frame(&touch->body, frame, frame->count, frame->offset);
 	if (touch->body.n > most) {
-		touch->body.n = before;
+		wire_take_back(&touch->body, before);
 		return false;
 	}
 	records_frame(&touch->records, frame);

@@ -1,5 +1,5 @@
 /* The second receiver. A message is judged whole first, into an array of contacts; then its frames are run over the table of
- * contacts where it stands. */
+ * contacts where it stands, or, by the plain reading, written as they are. */
 #include "twin.h"
 
 #include <stdbool.h>
@@ -80,11 +80,17 @@ static const struct rule rules[] = {
 };
 enum { RULES = sizeof rules / sizeof rules[0], DOWN = 0x19 };
 
-/* Reading. What is left of the message stands from at to end. A reader answers its refusal, and moves at past the field. */
+/* Reading. What is left of the message stands from at to end. A reader answers its refusal, and moves at past the field. Each reader
+ * reads both ways: strict refuses what is not the shortest form, and all else is the same. */
 struct source {
 	const uint8_t *at;
 	const uint8_t *end;
+	bool strict;
 };
+
+/* The readers of a touch message are compiled into each call that uses them, so that the receiver's do not look at strict: measured
+ * against it, the product is to find the second receiver no slower than it need be. */
+#define READER static inline __attribute__((always_inline)) enum refusal
 
 static enum refusal read_byte(struct source *in, uint8_t *value)
 {
@@ -122,9 +128,10 @@ static enum refusal read_little32(struct source *in, uint32_t *value)
 	return TAKEN;
 }
 
-/* 01, "The five integers": c bits for the count of further bytes, perhaps a sign bit, then the value. The shortest form is the
- * only one: a value that would fit in one byte less is refused. */
-static inline enum refusal read_magnitude(struct source *in, unsigned c_bits, unsigned sign_bits, uint64_t *value, bool *negative)
+/* 01, "The five integers": c bits for the count of further bytes, perhaps a sign bit, then the value. 000 (2.2.2.1 to 2.2.2.5) allows
+ * every count that the bits can say, also where the value would fit in fewer bytes. To the strict reading the shortest form is the only
+ * one: a value that would fit in one byte less is refused. */
+READER read_magnitude(struct source *in, unsigned c_bits, unsigned sign_bits, uint64_t *value, bool *negative)
 {
 	const unsigned first_bits = 8 - c_bits - sign_bits;
 	unsigned first, further;
@@ -140,21 +147,22 @@ static inline enum refusal read_magnitude(struct source *in, unsigned c_bits, un
 	*negative = sign_bits != 0 && (first >> first_bits & 1) != 0;
 	for (unsigned i = 1; i <= further; i++)
 		read = read << 8 | in->at[i];
-	if (further > 0 && read >> (first_bits + 8 * (further - 1)) == 0)
+	if (further > 0 && in->strict && read >> (first_bits + 8 * (further - 1)) == 0)
 		return NOT_SHORTEST;
 	in->at += 1 + further;
 	*value = read;
 	return TAKEN;
 }
 
-static inline enum refusal read_unsigned(struct source *in, unsigned c_bits, uint64_t *value)
+READER read_unsigned(struct source *in, unsigned c_bits, uint64_t *value)
 {
 	bool negative;
 
 	return read_magnitude(in, c_bits, 0, value, &negative);
 }
 
-static inline enum refusal read_signed(struct source *in, unsigned c_bits, int32_t *value)
+/* 02: minus zero is zero, and to the strict reading no form of it. */
+READER read_signed(struct source *in, unsigned c_bits, int32_t *value)
 {
 	uint64_t magnitude;
 	bool negative;
@@ -162,14 +170,14 @@ static inline enum refusal read_signed(struct source *in, unsigned c_bits, int32
 
 	if (refusal != TAKEN)
 		return refusal;
-	if (negative && magnitude == 0)
+	if (negative && magnitude == 0 && in->strict)
 		return NOT_SHORTEST;
 	*value = negative ? -(int32_t)magnitude : (int32_t)magnitude;
 	return TAKEN;
 }
 
 /* An unsigned integer that has a greatest value, and the refusal of a greater one. */
-static inline enum refusal read_limited(struct source *in, unsigned c_bits, unsigned most, enum refusal above, unsigned *value)
+READER read_limited(struct source *in, unsigned c_bits, unsigned most, enum refusal above, unsigned *value)
 {
 	uint64_t read;
 	enum refusal refusal = read_unsigned(in, c_bits, &read);
@@ -184,7 +192,7 @@ static inline enum refusal read_limited(struct source *in, unsigned c_bits, unsi
 
 enum { U2 = 1, S2 = 1, U4 = 2, S4 = 2, U8 = 3 };
 
-static enum refusal read_sides(struct source *in, int16_t side[4])
+READER read_sides(struct source *in, int16_t side[4])
 {
 	for (unsigned i = 0; i < 4; i++) {
 		int32_t value;
@@ -197,7 +205,7 @@ static enum refusal read_sides(struct source *in, int16_t side[4])
 	return TAKEN;
 }
 
-static enum refusal read_optional(struct source *in, struct contact *contact)
+READER read_optional(struct source *in, struct contact *contact)
 {
 	enum refusal refusal = TAKEN;
 	unsigned orientation = 0, pressure = 0;
@@ -214,7 +222,7 @@ static enum refusal read_optional(struct source *in, struct contact *contact)
 	return refusal;
 }
 
-static enum refusal read_contact(struct source *in, struct contact *contact)
+READER read_contact(struct source *in, struct contact *contact)
 {
 	unsigned present = 0, flags = 0;
 	enum refusal refusal = read_byte(in, &contact->id);
@@ -237,7 +245,7 @@ static enum refusal read_contact(struct source *in, struct contact *contact)
 }
 
 /* The contacts of a frame go behind those of the frames before it. */
-static enum refusal read_frame(struct source *in, struct touch *touch, struct frame *frame, bool first)
+READER read_frame(struct source *in, struct touch *touch, struct frame *frame, bool first)
 {
 	enum refusal refusal = read_limited(in, U2, FRAME_CONTACTS_MOST, BAD_COUNT, &frame->count);
 
@@ -250,10 +258,10 @@ static enum refusal read_frame(struct source *in, struct touch *touch, struct fr
 	return refusal;
 }
 
-/* The whole body of a touch message. With ready flag 2 an offset is read and then counts as 0, and so does encodeTime. */
-static enum refusal read_touch(const struct twin *twin, struct source *in, struct touch *touch)
+/* The whole body of a touch message. Without times an offset is read and then counts as 0, and so does encodeTime. With begins the first
+ * frame's offset has to be 0. */
+READER read_touch(struct source *in, struct touch *touch, bool times, bool begins)
 {
-	const bool times = (twin->flags & TWIN_NO_TIMES) == 0;
 	uint64_t time;
 	enum refusal refusal = read_unsigned(in, U4, &time);
 
@@ -264,7 +272,7 @@ static enum refusal read_touch(const struct twin *twin, struct source *in, struc
 		return refusal;
 	touch->time = times ? (uint32_t)time : 0;
 	for (unsigned i = 0; i < touch->frames; i++) {
-		refusal = read_frame(in, touch, &touch->frame[i], i == 0 && times && !twin->begun);
+		refusal = read_frame(in, touch, &touch->frame[i], i == 0 && begins);
 		if (refusal != TAKEN)
 			return refusal;
 		if (!times)
@@ -431,10 +439,12 @@ static struct twin_answer run_in_doubt(struct twin *twin, const struct touch *to
 	return answer;
 }
 
+/* 01: ready flag 2 takes the times away, and with them the rule for the first frame's offset. */
 static struct twin_answer receive_touch(struct twin *twin, struct source in, uint8_t *output, size_t room)
 {
+	const bool times = (twin->flags & TWIN_NO_TIMES) == 0;
 	struct touch touch;
-	const enum refusal refusal = read_touch(twin, &in, &touch);
+	const enum refusal refusal = read_touch(&in, &touch, times, times && !twin->begun);
 	size_t most;
 
 	if (refusal != TAKEN)
@@ -492,24 +502,76 @@ void twin_fresh(struct twin *twin)
 	memset(twin, 0, sizeof *twin);
 }
 
-struct twin_answer twin_receive(struct twin *twin, const uint8_t *message, size_t n, uint8_t *output, size_t room)
+/* Checks 1 to 4 of 01, "Refusal numbers and their order", where one of two events is taken. */
+static enum refusal check_header(const uint8_t *message, size_t n, enum event one, enum event other)
 {
-	struct source in;
 	unsigned event;
 
 	if (n < HEADER_BYTES)
-		return refused(SHORT);
+		return SHORT;
 	if (n > TWIN_MESSAGE_MOST)
-		return refused(TOO_LONG);
+		return TOO_LONG;
 	event = little16(message);
-	if (twin->ready ? event != TOUCH && event != DISMISS : event != CLIENT_READY)
-		return refused(UNEXPECTED);
-	if (little32(message + 2) != n)
-		return refused(BAD_LENGTH);
-	in = (struct source){ message + HEADER_BYTES, message + n };
-	if (event == TOUCH)
+	if (event != one && event != other)
+		return UNEXPECTED;
+	return little32(message + 2) == n ? TAKEN : BAD_LENGTH;
+}
+
+struct twin_answer twin_receive(struct twin *twin, const uint8_t *message, size_t n, uint8_t *output, size_t room)
+{
+	const enum refusal refusal = check_header(message, n, twin->ready ? TOUCH : CLIENT_READY, twin->ready ? DISMISS : CLIENT_READY);
+	struct source in;
+
+	if (refusal != TAKEN)
+		return refused(refusal);
+	in = (struct source){ message + HEADER_BYTES, message + n, false };
+	switch (little16(message)) {
+	case TOUCH:
 		return receive_touch(twin, in, output, room);
-	if (event == DISMISS)
+	case DISMISS:
 		return receive_dismiss(twin, in, output, room);
-	return receive_ready(twin, in);
+	default:
+		return receive_ready(twin, in);
+	}
+}
+
+/* All frames with their contacts, in the order of the message. */
+static void put_frames(uint8_t *at, const struct touch *touch)
+{
+	const struct contact *contact = touch->contact;
+
+	for (unsigned i = 0; i < touch->frames; i++) {
+		put_head(at, &touch->frame[i]);
+		at += TWIN_RECORD_BYTES;
+		for (unsigned j = 0; j < touch->frame[i].count; j++) {
+			put_contact(at, CONTACT, contact++);
+			at += TWIN_RECORD_BYTES;
+		}
+	}
+}
+
+static struct twin_plain_answer refused_plainly(enum refusal refusal)
+{
+	return (struct twin_plain_answer){ .refusal = (uint8_t)refusal };
+}
+
+/* 01: "The plain reading takes only 3 and doesn't apply 11." It has no ready flags, so that times are as they are sent. */
+struct twin_plain_answer twin_plain(enum twin_forms forms, const uint8_t *message, size_t n, uint8_t *output, size_t room)
+{
+	enum refusal refusal = check_header(message, n, TOUCH, TOUCH);
+	struct touch touch;
+	struct source in;
+	size_t records;
+
+	if (refusal != TAKEN)
+		return refused_plainly(refusal);
+	in = (struct source){ message + HEADER_BYTES, message + n, forms == TWIN_STRICT };
+	refusal = read_touch(&in, &touch, true, false);
+	if (refusal != TAKEN)
+		return refused_plainly(refusal);
+	records = (size_t)touch.frames + touch.contacts;
+	if (records * TWIN_RECORD_BYTES > room)
+		return refused_plainly(NO_ROOM);
+	put_frames(output, &touch);
+	return (struct twin_plain_answer){ TAKEN, touch.time, records };
 }

@@ -1,5 +1,6 @@
-/* The twin: a second receiver, in plain C, written from [MS-RDPEI] and from the paper with the work's rules (cited as 01, by its
- * headings). The product is compared with it and measured against it; nothing of the product is in it. */
+/* The twin: a second receiver, in plain C, written from [MS-RDPEI] (cited as 000), from the paper with the work's rules (cited as 01, by
+ * its headings) and from the paper with the later requests (cited as 02). The product is compared with it and measured against it;
+ * nothing of the product is in it. */
 #ifndef TWIN_H
 #define TWIN_H
 
@@ -35,9 +36,21 @@ struct twin_answer {
 	size_t records;
 };
 
+/* Which forms of an integer a reading takes: every one that 000 allows, or the shortest alone. */
+enum twin_forms { TWIN_LENIENT, TWIN_STRICT };
+
+struct twin_plain_answer {
+	uint8_t refusal;
+	uint32_t time;          /* milliseconds */
+	size_t records;
+};
+
 void twin_fresh(struct twin *twin);
 
-/* Judges a message of n bytes and carries it out. The records stand from the output's first byte. */
+/* Judges a message of n bytes and carries it out. The records stand from the output's first byte. Integers are read leniently. */
 struct twin_answer twin_receive(struct twin *twin, const uint8_t *message, size_t n, uint8_t *output, size_t room);
+
+/* Reads a touch message of n bytes with no receiver: its heads and contacts stand as records from the output's first byte. */
+struct twin_plain_answer twin_plain(enum twin_forms forms, const uint8_t *message, size_t n, uint8_t *output, size_t room);
 
 #endif

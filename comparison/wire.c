@@ -14,8 +14,9 @@ uint64_t wire_greatest(const struct wire_form *form, unsigned bytes)
 
 void wire_start(struct wire *wire)
 {
-	wire->fault = WIRE_SOUND;
-	wire->pass = 0;
+	wire->padding = (struct wire_padding){ .padded = WIRE_SHORTEST };
+	wire->padded_at = 0;
+	wire->padded_bytes = 0;
 	wire->n = 0;
 }
 
@@ -28,10 +29,27 @@ void wire_byte(struct wire *wire, uint8_t byte)
 	wire->bytes[wire->n++] = byte;
 }
 
+/* Keeps in mind where an integer stands that is longer than it need be, unless there is one before. */
+static void note_padded(struct wire *wire, size_t at, unsigned bytes)
+{
+	if (wire->padded_bytes > 0)
+		return;
+	wire->padded_at = at;
+	wire->padded_bytes = bytes;
+}
+
 void wire_append(struct wire *wire, const struct wire *more)
 {
+	note_padded(wire, wire->n + more->padded_at, more->padded_bytes);
 	for (size_t i = 0; i < more->n; i++)
 		wire_byte(wire, more->bytes[i]);
+}
+
+void wire_take_back(struct wire *wire, size_t n)
+{
+	wire->n = n;
+	if (wire->padded_at >= n)
+		wire->padded_bytes = 0;
 }
 
 void wire_little(struct wire *wire, unsigned bytes, uint64_t value)
@@ -46,30 +64,39 @@ void wire_big(struct wire *wire, unsigned bytes, uint64_t value)
 		wire_byte(wire, (uint8_t)(value >> 8 * bytes));
 }
 
-/* Whether the fault that is waiting falls on this integer. */
-static bool faulty(struct wire *wire, enum wire_fault fault, bool can)
+/* By how many bytes an integer is longer, where it could be by so many. */
+static unsigned choose_padding(const struct wire_padding *padding, unsigned spare)
 {
-	if (wire->fault != fault || !can)
-		return false;
-	if (wire->pass > 0) {
-		wire->pass--;
-		return false;
+	if (spare == 0)
+		return 0;
+	switch (padding->padded) {
+	case WIRE_SOME:
+		return random_chance(padding->random, padding->longer) ? 1 + random_below(padding->random, spare) : 0;
+	case WIRE_BY_ONE:
+		return 1;
+	default:
+		return 0;
 	}
-	wire->fault = WIRE_SOUND;
-	return true;
+}
+
+static bool choose_minus(const struct wire_padding *padding)
+{
+	return padding->padded == WIRE_SOME && random_chance(padding->random, padding->minus);
 }
 
 static void integer(struct wire *wire, const struct wire_form *form, uint64_t magnitude, bool negative)
 {
 	const unsigned first_bits = 8 - form->c_bits - form->sign_bits;
-	unsigned bytes = 1;
+	unsigned bytes = 1, more;
 
 	while (magnitude > wire_greatest(form, bytes))
 		bytes++;
-	if (faulty(wire, WIRE_LONGER, bytes < form->bytes_most))
-		bytes++;
-	if (faulty(wire, WIRE_MINUS_ZERO, form->sign_bits == 1 && magnitude == 0))
-		negative = true;
+	more = choose_padding(&wire->padding, form->bytes_most - bytes);
+	bytes += more;
+	if (more > 0)
+		note_padded(wire, wire->n, bytes);
+	if (form->sign_bits == 1 && magnitude == 0)
+		negative = choose_minus(&wire->padding);
 	wire_byte(wire, (uint8_t)((bytes - 1) << (8 - form->c_bits) | (unsigned)negative << first_bits |
 	                          (unsigned)(magnitude >> 8 * (bytes - 1))));
 	while (--bytes > 0)

@@ -2,9 +2,9 @@
 #ifndef WIRE_H
 #define WIRE_H
 
-#include <stdbool.h>
+#include "random.h"
+
 #include <stddef.h>
-#include <stdint.h>
 #include <stdio.h>
 
 enum { WIRE_MOST = 65535, WIRE_HEADER_BYTES = 6 };
@@ -26,13 +26,22 @@ struct wire_form {
 };
 extern const struct wire_form wire_u2, wire_s2, wire_u4, wire_s4, wire_u8;
 
-/* What may be wrong with the form of one integer: it is not the shortest, or it is minus zero. */
-enum wire_fault { WIRE_SOUND, WIRE_LONGER, WIRE_MINUS_ZERO };
+/* Which integers are longer than they need be: none, some by chance, each by one byte where it can be. */
+enum wire_padded { WIRE_SHORTEST, WIRE_SOME, WIRE_BY_ONE };
 
-/* A message that is being written. A fault falls on the first integer that can have it, after passing over some of them. */
+struct wire_padding {
+	enum wire_padded padded;
+	struct random *random;  /* of some: decides which, and by how many bytes */
+	unsigned longer;        /* of some: chance in 1000 that an integer is longer */
+	unsigned minus;         /* of some: chance in 1000 that a zero that has a sign is minus zero, longer or not */
+};
+
+/* A message that is being written, with the first integer in it that is longer than it need be: where it stands, and how many bytes it has,
+ * 0 if there is none. */
 struct wire {
-	enum wire_fault fault;
-	unsigned pass;
+	struct wire_padding padding;
+	size_t padded_at;
+	unsigned padded_bytes;
 	size_t n;
 	uint8_t bytes[WIRE_MOST];
 };
@@ -51,9 +60,14 @@ struct wire_contact {
 /* The greatest value that takes so many bytes in this form. */
 uint64_t wire_greatest(const struct wire_form *form, unsigned bytes);
 
+/* Nothing, whose integers will be the shortest. */
 void wire_start(struct wire *wire);
 void wire_byte(struct wire *wire, uint8_t byte);
 void wire_append(struct wire *wire, const struct wire *more);
+
+/* Takes back all that is behind the first n bytes. */
+void wire_take_back(struct wire *wire, size_t n);
+
 void wire_little(struct wire *wire, unsigned bytes, uint64_t value);
 void wire_big(struct wire *wire, unsigned bytes, uint64_t value);
 void wire_unsigned(struct wire *wire, const struct wire_form *form, uint64_t value);

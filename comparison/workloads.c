@@ -3,7 +3,10 @@
  * one      one frame of one contact a message, no optional fields: down, 98 updates, up
  * ten      one frame of ten contacts a message, all optional fields: down, 98 updates, up
  * frames   64 frames of one contact a message, with the contact's sides: down, 62 updates, up
- * refused  messages like those of ten, each with one fault, most of them in the last contact */
+ * refused  messages like those of ten, each with one fault, most of them in the last contact
+ * padded   the messages of ten, each integer a byte longer than it need be where it can be
+ *
+ * All integers of the first four are the shortest. */
 #include "wire.h"
 
 #include <stdio.h>
@@ -41,46 +44,55 @@ static void write_frame(struct wire *wire, bool first, unsigned fingers, unsigne
 	}
 }
 
-static void start_touch(struct wire *wire, unsigned frames)
+static void start_touch(struct wire *wire, unsigned frames, enum wire_padded padded)
 {
 	wire_start(wire);
+	wire->padding.padded = padded;
 	wire_header(wire, WIRE_TOUCH);
 	wire_unsigned(wire, &wire_u4, 4);
 	wire_unsigned(wire, &wire_u2, frames);
 }
 
 /* A message of one frame, at one step of a stroke. */
-static void make_step(struct wire *wire, bool first, unsigned fingers, unsigned step, uint32_t present)
+static void make_step(struct wire *wire, bool first, unsigned fingers, unsigned step, uint32_t present, enum wire_padded padded)
 {
-	start_touch(wire, 1);
+	start_touch(wire, 1, padded);
 	write_frame(wire, first, fingers, step, STROKE, present);
 	wire_length(wire);
 }
 
 static void make_one(struct wire *wire, unsigned i)
 {
-	make_step(wire, i == 0, 1, i % STROKE, 0);
+	make_step(wire, i == 0, 1, i % STROKE, 0, WIRE_SHORTEST);
 }
 
 static void make_ten(struct wire *wire, unsigned i)
 {
-	make_step(wire, i == 0, TEN, i % STROKE, 7);
+	make_step(wire, i == 0, TEN, i % STROKE, 7, WIRE_SHORTEST);
+}
+
+static void make_padded(struct wire *wire, unsigned i)
+{
+	make_step(wire, i == 0, TEN, i % STROKE, 7, WIRE_BY_ONE);
 }
 
 static void make_frames(struct wire *wire, unsigned i)
 {
-	start_touch(wire, FRAMES);
+	start_touch(wire, FRAMES, WIRE_SHORTEST);
 	for (unsigned step = 0; step < FRAMES; step++)
 		write_frame(wire, i == 0 && step == 0, 1, step, FRAMES, 1);
 	wire_length(wire);
 }
 
-/* A message of ten contacts that has a fault in the last of them. */
+/* A message of ten contacts that has a fault in the last of them, by kind: 0 pressure over its limit, 1 orientation over its limit, 2 flags
+ * that are not in the table, 3 fields that are not listed, 4 all fields with one more that is not listed, in an integer of two bytes.
+ * When padded integers were refused, the last was the same message with all fields in an integer that was padded to two bytes: it is as
+ * long as it was, and refused at the same field. */
 static void make_fault_in_contact(struct wire *wire, unsigned i, unsigned kind)
 {
 	struct wire_contact last = at_step(TEN - 1, i % STROKE, STROKE, 7);
 
-	start_touch(wire, 1);
+	start_touch(wire, 1, WIRE_SHORTEST);
 	write_frame(wire, true, TEN - 1, i % STROKE, STROKE, 7);
 	wire->bytes[WIRE_HEADER_BYTES + 2] = TEN;
 	if (kind == 0)
@@ -92,12 +104,13 @@ static void make_fault_in_contact(struct wire *wire, unsigned i, unsigned kind)
 	else if (kind == 3)
 		last.present = 8;
 	else
-		wire->fault = WIRE_LONGER;
+		last.present = 0x80 | 7;
 	wire_contact(wire, &last);
 	wire_length(wire);
 }
 
-/* Five faults in a contact; then too few bytes, too many, another length than the header says, and an event of the host. */
+/* By kind: 0 to 4 faults in a contact; 5 a byte too few, 6 a byte too many, 7 another length than the header says, 8 an event of the host.
+ * All are refused. */
 static void make_refused(struct wire *wire, unsigned i)
 {
 	const unsigned kind = i % 9;
@@ -106,7 +119,7 @@ static void make_refused(struct wire *wire, unsigned i)
 		make_fault_in_contact(wire, i, kind);
 		return;
 	}
-	make_step(wire, true, TEN, i % STROKE, 7);
+	make_step(wire, true, TEN, i % STROKE, 7, WIRE_SHORTEST);
 	if (kind == 5)
 		wire->n--;
 	else if (kind == 8)
@@ -120,7 +133,9 @@ static void make_refused(struct wire *wire, unsigned i)
 static const struct workload {
 	const char *name;
 	void (*make)(struct wire *, unsigned);
-} workloads[] = { { "one", make_one }, { "ten", make_ten }, { "frames", make_frames }, { "refused", make_refused } };
+} workloads[] = {
+	{ "one", make_one }, { "ten", make_ten }, { "frames", make_frames }, { "refused", make_refused }, { "padded", make_padded },
+};
 
 static void write_all(const struct workload *workload, unsigned entries)
 {
@@ -143,6 +158,6 @@ int main(int argc, char **argv)
 		write_all(&workloads[i], (unsigned)strtoul(argv[2], NULL, 10));
 		return fflush(stdout) == 0 && !ferror(stdout) ? 0 : 2;
 	}
-	fputs("usage: workloads one|ten|frames|refused ENTRIES > FILE\n", stderr);
+	fputs("usage: workloads one|ten|frames|refused|padded ENTRIES > FILE\n", stderr);
 	return 2;
 }

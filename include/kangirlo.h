@@ -26,7 +26,7 @@ enum kangirlo_refusal {
 	KANGIRLO_UNEXPECTED = 3,    /* an event that is not taken now */
 	KANGIRLO_BAD_LENGTH = 4,    /* pduLength differs from how many bytes there are */
 	KANGIRLO_TRUNCATED = 5,     /* the body ends inside a field, or before one that is due */
-	KANGIRLO_NOT_SHORTEST = 6,  /* an integer that is not in its only form */
+	KANGIRLO_NOT_SHORTEST = 6,  /* an integer that is longer than it need be, or minus zero; by kangirlo_plain_strictly alone */
 	KANGIRLO_BAD_COUNT = 7,     /* frames over 64, contacts over 63 */
 	KANGIRLO_BAD_FIELD = 8,     /* version, ready flags or fieldsPresent not listed */
 	KANGIRLO_BAD_FLAGS = 9,     /* contactFlags not in the state table */
@@ -131,7 +131,7 @@ struct kangirlo_batch_turn {
 	struct kangirlo_batch batch;
 };
 
-/* What the plain reading answers. */
+/* What a plain reading answers, the lenient one and the strict one. */
 struct kangirlo_plain_answer {
 	uint8_t refusal;
 	struct kangirlo_milliseconds time;
@@ -188,7 +188,8 @@ struct kangirlo_record {
 struct kangirlo_receiver kangirlo_fresh(void);
 
 /* Judges a message and carries it out: the receiver becomes what the message makes of it, its records stand from the output's first
- * byte, and nothing past them is touched. Refused with 13 where the output is too short for them; 48 KiB is enough for any message. */
+ * byte, and nothing past them is touched. Refused with 13 where the output is too short for them; 48 KiB is enough for any message.
+ * An integer may take more bytes than it needs, as many as [MS-RDPEI] allows for its kind, and minus zero is zero: 6 is not given. */
 struct kangirlo_answer kangirlo_receive(struct kangirlo_receiver *receiver, const uint8_t *message, size_t length, uint8_t *output,
                                         size_t room);
 
@@ -251,10 +252,17 @@ static inline struct kangirlo_batch kangirlo_receive_all_direct(struct kangirlo_
 	return turn.batch;
 }
 
-/* Reads a touch message by itself, with no receiver: its heads and contacts as records. */
+/* Reads a touch message by itself, with no receiver: its heads and contacts as records. Integers are read as by kangirlo_receive, so that
+ * 6 is not given. What is read, given to kangirlo_write_touch with its time, is the shortest message of the same meaning: it is read the
+ * same, and written back again it is itself. */
 struct kangirlo_plain_answer kangirlo_plain(const uint8_t *message, size_t length, uint8_t *output, size_t room);
 
-/* The six writers: each writes its whole message from the output's first byte and touches nothing past it.
+/* The same where every integer is to be in its shortest form, and zero positive: any other is refused by 6, which for one field comes after
+ * 5 and before what the field means. Where it answers anything but 6, kangirlo_plain answers the same; where it accepts, what it reads is
+ * written back to the same bytes. */
+struct kangirlo_plain_answer kangirlo_plain_strictly(const uint8_t *message, size_t length, uint8_t *output, size_t room);
+
+/* The six writers: each writes its whole message from the output's first byte and touches nothing past it. Integers are the shortest.
  * The ready writers refuse a version or a flag that is not listed by 8; write_touch takes heads and contacts (kinds 0 and 1), each
  * head followed by its count of contacts, and refuses by 10, 14, 7, 2; all refuse too little room by 13. */
 struct kangirlo_written kangirlo_write_server_ready(uint8_t *output, size_t room, uint32_t version);

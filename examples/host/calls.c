@@ -17,6 +17,15 @@ static const uint8_t other[] = {3, 0, 17, 0, 0, 0, 0, 1, 1, 0, 2, 0, 0x40, 0x64,
 static const uint8_t full[] = {3,    0,    30,   0,    0,    0,    0x40, 0x46, 0x01, 0x01, 0x20, 0x28, 0x03, 0x07, 0x60,
                                0x32, 0x43, 0x84, 0x0A, 0x45, 0x80, 0x46, 0x05, 0xC0, 0x46, 0x41, 0x2C, 0x80, 0x9C, 0x40};
 
+/* The same as a client may send it that pads its integers: each in the most bytes that there are for it. */
+static const uint8_t longest[] = {3,    0,    53,   0,    0,    0,    0xC0, 0,    0,    0x46, 0x80, 0x01, 0x80, 0x01, 0xE0, 0,    0,    0,
+                                  0,    0,    0,    0x28, 0x03, 0x80, 0x07, 0xE0, 0,    0,    0x32, 0xC0, 0,    0x03, 0x84, 0xC0, 0,    0,
+                                  0x0A, 0xC0, 0x05, 0x80, 0x46, 0x80, 0x05, 0xC0, 0x46, 0xC0, 0,    0x01, 0x2C, 0xC0, 0,    0x9C, 0x40};
+
+/* Contact 1 goes down at 0, 0: x is minus zero in one byte, y in two, or both are zero. */
+static const uint8_t minus[] = {3, 0, 16, 0, 0, 0, 0, 1, 1, 0, 1, 0, 0x20, 0x60, 0, 0x19};
+static const uint8_t zero[] = {3, 0, 15, 0, 0, 0, 0, 1, 1, 0, 1, 0, 0, 0, 0x19};
+
 enum { UNTOUCHED = 0xA5 };
 
 static uint8_t output[KANGIRLO_OUTPUT_MOST];
@@ -63,6 +72,18 @@ static void test_receiver(const struct way *way)
 	EXPECT(answers(way->receive(&r, full, sizeof full, output, sizeof output), KANGIRLO_TAKEN, 0, 1, 0, 70, 0));
 	EXPECT(r.ignoring == 1 && r.states[3] == 0);
 	EXPECT(answers(way->receive(&r, ready, 0, output, sizeof output), KANGIRLO_SHORT, 0, 0, 0, 0, 0));
+}
+
+/* Integers of any length are taken, and minus zero as zero. */
+static void test_padded(const struct way *way)
+{
+	struct kangirlo_receiver r = kangirlo_fresh();
+
+	EXPECT(answers(way->receive(&r, ready, sizeof ready, output, sizeof output), KANGIRLO_TAKEN, 0, 0, 0, 0, 0));
+	EXPECT(answers(way->receive(&r, minus, sizeof minus, output, sizeof output), KANGIRLO_TAKEN, 1, 0, 0, 0, 2));
+	EXPECT(r.states[1] == 2 && r.xs[1] == 0 && r.ys[1] == 0 && record_at(1).x == 0 && record_at(1).y == 0);
+	EXPECT(answers(way->receive(&r, longest, sizeof longest, output, sizeof output), KANGIRLO_TAKEN, 1, 0, 0, 70, 2));
+	EXPECT(r.states[3] == 1 && r.xs[3] == -50 && r.ys[3] == 900 && record_at(0).offset.value == 40 && record_at(1).pressure == 40000);
 }
 
 /* Puts an entry behind those before: a message's length, and its bytes. Answers where the next goes. */
@@ -252,6 +273,56 @@ static void test_plain(void)
 	EXPECT(kangirlo_read_record(output, KANGIRLO_RECORD_BYTES - 1).refusal == KANGIRLO_BAD_RECORD);
 }
 
+static int reads(struct kangirlo_plain_answer a, int refusal, uint32_t time, size_t records)
+{
+	return a.refusal == refusal && a.time.value == time && a.records == records;
+}
+
+/* Whether the strict reading refuses a message, and leaves the output alone. */
+static int refused_strictly(const uint8_t *message, size_t length, int refusal)
+{
+	lay_out();
+	return reads(kangirlo_plain_strictly(message, length, output, sizeof output), refusal, 0, 0) && left_with(0);
+}
+
+/* Whether a message, read leniently, is written back as another one. */
+static int becomes(const uint8_t *message, size_t length, const uint8_t *other_message, size_t other_length)
+{
+	struct kangirlo_plain_answer a = kangirlo_plain(message, length, output, sizeof output);
+	uint8_t back[sizeof longest];
+	struct kangirlo_written w;
+
+	w = kangirlo_write_touch(back, sizeof back, a.time, output, a.records * KANGIRLO_RECORD_BYTES);
+	return a.refusal == KANGIRLO_TAKEN && w.refusal == KANGIRLO_TAKEN && w.bytes == other_length
+	       && memcmp(back, other_message, other_length) == 0;
+}
+
+/* The strict reading beside the lenient one: of the shortest, of padded ones, and of a padded value that is also out of range. */
+static void test_plain_strictly(void)
+{
+	enum { ORIENTATION = 48 };
+	uint8_t over[sizeof longest], records[2 * KANGIRLO_RECORD_BYTES];
+
+	lay_out();
+	EXPECT(reads(kangirlo_plain_strictly(full, sizeof full, output, sizeof output), KANGIRLO_TAKEN, 70, 2) && left_with(2));
+	memcpy(records, output, sizeof records);
+	lay_out();
+	EXPECT(reads(kangirlo_plain(longest, sizeof longest, output, sizeof output), KANGIRLO_TAKEN, 70, 2) && left_with(2));
+	EXPECT(memcmp(output, records, sizeof records) == 0);
+	EXPECT(refused_strictly(longest, sizeof longest, KANGIRLO_NOT_SHORTEST));
+	EXPECT(becomes(longest, sizeof longest, full, sizeof full) && becomes(full, sizeof full, full, sizeof full));
+	EXPECT(refused_strictly(minus, sizeof minus, KANGIRLO_NOT_SHORTEST));
+	EXPECT(becomes(minus, sizeof minus, zero, sizeof zero) && becomes(zero, sizeof zero, zero, sizeof zero));
+	EXPECT(record_at(1).x == 0 && record_at(1).y == 0);
+	EXPECT(reads(kangirlo_plain_strictly(full, sizeof full, output, 41), KANGIRLO_NO_ROOM, 0, 0));
+	EXPECT(refused_strictly(full, sizeof full - 1, KANGIRLO_BAD_LENGTH));
+	EXPECT(refused_strictly(ready, sizeof ready, KANGIRLO_UNEXPECTED));
+	memcpy(over, longest, sizeof over);
+	over[ORIENTATION] = 0x68; /* 360 */
+	EXPECT(reads(kangirlo_plain(over, sizeof over, output, sizeof output), KANGIRLO_BAD_RANGE, 0, 0));
+	EXPECT(refused_strictly(over, sizeof over, KANGIRLO_NOT_SHORTEST));
+}
+
 static int wrote(struct kangirlo_written w, const uint8_t *bytes, size_t count)
 {
 	return w.refusal == KANGIRLO_TAKEN && w.bytes == count && memcmp(output, bytes, count) == 0;
@@ -279,12 +350,15 @@ int main(void)
 
 	test_receiver(&whole);
 	test_receiver(&direct);
+	test_padded(&whole);
+	test_padded(&direct);
 	test_batch(&whole);
 	test_batch(&direct);
 	test_marks();
 	test_parts();
 	test_batch_parts();
 	test_plain();
+	test_plain_strictly();
 	test_writers();
 	return expect_end();
 }

@@ -95,6 +95,13 @@ static void plain(void)
 	lent.records = kangirlo_plain(lent.message, lent.length, lent.output, sizeof lent.output).records;
 }
 
+/* What it reads is what the lenient reading has read, or nothing: the records for the calls after it stay those. */
+static void plain_strictly(void)
+{
+	PAINTED_MARK();
+	lent.bytes = kangirlo_plain_strictly(lent.message, lent.length, lent.output, sizeof lent.output).records;
+}
+
 static void write_touch(void)
 {
 	struct kangirlo_milliseconds time = {7};
@@ -161,6 +168,7 @@ static struct painted_call receiving[RECEIVING][ROOMS] = {
 /* What a message holds, read and written by itself. */
 static struct painted_call others[] = {
 	{"kangirlo_plain", plain, 0},
+	{"kangirlo_plain_strictly", plain_strictly, 0},
 	{"kangirlo_write_touch", write_touch, 0},
 	{"kangirlo_read_record", read_records, 0},
 };

@@ -1,9 +1,10 @@
 //! A panel and a receiver in one program: document 01's finger goes down and up, and then moves without having come down, which the
-//! panel does not send. Prints what becomes of each.
+//! panel does not send. Prints what becomes of each. What another maker's client might send in its place, with padded integers, is read
+//! too: a panel given what was read sends the shortest message.
 
 use kangirlo::{
     MESSAGE_MOST, Milliseconds, OUTPUT_MOST, Panel, Receiver, Refusal, Settings, plain,
-    write_server_ready,
+    plain_strictly, write_server_ready,
 };
 
 const VERSION: u32 = 0x0001_0001;
@@ -41,6 +42,8 @@ impl Ends {
 
     fn send(&mut self, time: Milliseconds, records: &[u8]) -> Result<(), Refusal> {
         let length = self.panel.write_touch(&mut self.message, time, records)?;
+        let strictly = plain_strictly(&self.message[..length], &mut self.output)?;
+        assert_eq!((strictly.0, strictly.1.bytes()), (time, records));
         self.deliver(length)
     }
 
@@ -58,10 +61,10 @@ impl Ends {
     }
 }
 
-/// A touch message of contact 1 at 100, 50, to have its records from.
-fn message(flags: u8) -> [u8; 17] {
+/// A touch message of contact 1 at 100, 50, to have its records from: x and the flags take a byte more than they need.
+fn message(flags: u8) -> [u8; 19] {
     [
-        3, 0, 17, 0, 0, 0, 0, 1, 1, 0, 1, 0, 0x40, 0x64, 0x40, 0x32, flags,
+        3, 0, 19, 0, 0, 0, 0, 1, 1, 0, 1, 0, 0x80, 0, 0x64, 0x40, 0x32, 0x40, flags,
     ]
 }
 
@@ -69,6 +72,8 @@ fn main() -> Result<(), Refusal> {
     let mut ends = Ends::meet()?;
     let mut output = vec![0; OUTPUT_MOST];
     for flags in [DOWN, UP, MOVE] {
+        let strictly = plain_strictly(&message(flags), &mut output);
+        assert_eq!(strictly, Err(Refusal::NOT_SHORTEST));
         let (time, records) = plain(&message(flags), &mut output)?;
         if let Err(refusal) = ends.send(time, records.bytes()) {
             println!("not sent: {}", refusal.number());

@@ -32,6 +32,7 @@ impl Refusal {
     pub const UNEXPECTED: Self = Self(3);
     pub const BAD_LENGTH: Self = Self(4);
     pub const TRUNCATED: Self = Self(5);
+    /// Of [`plain_strictly`] alone.
     pub const NOT_SHORTEST: Self = Self(6);
     pub const BAD_COUNT: Self = Self(7);
     pub const BAD_FIELD: Self = Self(8);
@@ -163,7 +164,18 @@ impl Receiver {
     }
 }
 
-/// Reads a touch message by itself.
+/// What a plain reading found, in the output that it was lent.
+fn found(answer: c::PlainAnswer, output: &[u8]) -> Result<(Milliseconds, Records<'_>), Refusal> {
+    accepted(answer.refusal)?;
+    Ok((
+        answer.time,
+        Records {
+            bytes: &output[..RECORD_BYTES * answer.records],
+        },
+    ))
+}
+
+/// Reads a touch message by itself. Integers may be longer than they need be, and minus zero is zero.
 pub fn plain<'a>(
     message: &[u8],
     output: &'a mut [u8],
@@ -176,13 +188,23 @@ pub fn plain<'a>(
             output.len(),
         )
     };
-    accepted(answer.refusal)?;
-    Ok((
-        answer.time,
-        Records {
-            bytes: &output[..RECORD_BYTES * answer.records],
-        },
-    ))
+    found(answer, output)
+}
+
+/// The same where every integer is to be in its shortest form: any other is [`Refusal::NOT_SHORTEST`].
+pub fn plain_strictly<'a>(
+    message: &[u8],
+    output: &'a mut [u8],
+) -> Result<(Milliseconds, Records<'a>), Refusal> {
+    let answer = unsafe {
+        c::kangirlo_plain_strictly(
+            message.as_ptr(),
+            message.len(),
+            output.as_mut_ptr(),
+            output.len(),
+        )
+    };
+    found(answer, output)
 }
 
 #[derive(Clone, Copy, Debug, PartialEq, Eq)]
@@ -430,6 +452,12 @@ mod c {
             ys: *mut [i32; 256],
         ) -> BatchTurn;
         pub fn kangirlo_plain(
+            message: *const u8,
+            length: usize,
+            output: *mut u8,
+            room: usize,
+        ) -> PlainAnswer;
+        pub fn kangirlo_plain_strictly(
             message: *const u8,
             length: usize,
             output: *mut u8,

@@ -20,7 +20,7 @@ use Rattle.messages.specs.Header as event
 use Rattle.messages.proofs.Laws.{one-of-first}
 use Rattle.framing.specs.Frame.{Frame, timedFrames, framesBytes}
 use Rattle.framing.proofs.Timed.{timed-length, timed-same}
-use Rattle.framing.proofs.Judged.{FirstStands, body-judged}
+use Rattle.framing.proofs.Judged.{firstStands, body-judged}
 use Rattle.touch.specs.Limits.{touchLimits}
 use Rattle.touch.specs.Touch.{Touch, contact, touchRecord, body}
 use Rattle.touch.specs.Touch as format
@@ -108,8 +108,9 @@ takes-touch p o =
     ap (λ (b : Bool). oneOf (cond b (clientReady ∷ []) (event.touch ∷ dismiss ∷ [])) event.touch) o ∙ one-of-first event.touch (dismiss ∷ []) event.touch refl
 
 -- 11 was judged by the panel as the receiver judges it
-first-stands : (p : Panel) (fs : List (Frame Contact)) → offsetStands p fs ≡ true → FirstStands (judgedBy (p .settings .flags) (p .begun)) fs
-first-stands p fs h f more e = rw e at h
+first-stands : (p : Panel) (fs : List (Frame Contact)) → offsetStands p fs ≡ true → firstStands (judgedBy (p .settings .flags) (p .begun)) fs ≡ true
+first-stands p [] h = refl
+first-stands p (f ∷ fs) h = h
 
 module _ (p : Panel) (time : Milliseconds) (records l : List ℕ) (b : Bytes records) where
   frames-written : (fs : List (Frame Contact)) (t : List ℕ) → checkedFrames time records ≡ got fs t → framesDraft time fs ≡ bytes l → plainly l ≡ got (message time fs) []
@@ -128,10 +129,11 @@ module _ (p : Panel) (time : Milliseconds) (records l : List ℕ) (b : Bytes rec
       let c = checked-got time records fs t e in
       let r = frames-read records fs t b (c .read) in
       let o = opened (mirror p) event.touch (format.touch taken false) (touch-law taken taken-law false) l m (frames-written fs t e (k .draft)) (takes-touch p (k .ready)) in
-      let j = body-judged taken touchLimits (contact taken) (judgedBy (p .settings .flags) (p .begun)) (drop headerBytes l) m [] (o .body) (first-stands p fs (k .stands)) in
+      let j = body-judged taken touchLimits (contact taken) (judgedBy (p .settings .flags) (p .begun)) (drop headerBytes l) m [] (o .body) in
+      let s = first-stands p fs (k .stands) in
       record {
         effect = touched (mirror p) m;
-        read = rw (o .head, j);
+        read = rw (o .head, j, s);
         counts = touched-counts p time fs (k .conform) ∙ ap (λ (x : Got (List (Frame Contact))). allInjected (length (framesOf x))) (sym (c .read));
         receiver = touched-receiver p time fs (k .conform) ∙ ap (λ (x : Got (List (Frame Contact))). mirror (framesSending p time x .panel)) (sym e);
         bytes =

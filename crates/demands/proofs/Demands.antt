@@ -3,11 +3,13 @@
 use mathlib.Core.Bool.{Bool}
 use Rattle.demands.specs.Refusing.{EveryRefusal}
 use Rattle.demands.specs.RoundTrip.{ReadAndWrittenBack}
+use Rattle.demands.specs.Padding.{PaddingChangesNothing}
 use Rattle.demands.specs.FirstFault.{FirstFault}
 use Rattle.demands.specs.Histories.{EveryHistory}
 use Rattle.demands.specs.Whole.{WritesWholeFrames}
 use Rattle.demands.proofs.Refusals.{every-refusal}
 use Rattle.demands.proofs.RoundTrip.{read-and-written-back}
+use Rattle.demands.proofs.Padding.{padding-changes-nothing}
 use Rattle.demands.proofs.FirstFault.{the-first-fault-answers}
 use Rattle.demands.proofs.Histories.{every-history}
 use Rattle.demands.proofs.Whole.{writes-whole-frames}
@@ -22,6 +24,10 @@ demand-1 = every-refusal
 -- bytes, reading and then writing yields the shortest message of the same meaning; doing that twice changes nothing more." (#104)
 pub demand-2 : ReadAndWrittenBack
 demand-2 = read-and-written-back
+
+-- And padding changes nothing: to a receiver such a message is what the shortest of the same meaning is.
+pub padding : PaddingChangesNothing
+padding = padding-changes-nothing
 
 -- "The body is judged left to right, field by field, and the first fault answers", strictly or not.
 pub first-fault : (strictly : Bool) → FirstFault strictly

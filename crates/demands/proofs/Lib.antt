@@ -1,6 +1,7 @@
 pub mod Refusals
 pub mod RoundTrip
 pub mod FirstFault
+pub mod Padding
 pub mod Histories
 pub mod Whole
 pub mod Demands

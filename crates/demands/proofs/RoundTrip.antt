@@ -203,6 +203,11 @@ module _ (message : List ℕ) (a : PlainAnswer) (before after : List ℕ) (hm : 
       rw (time-is false message a before after x, are)
       (judged strictly shortened b before′ after′ h .accepts m [] (accepted-is-read-again message m (x .rest) hm (x .read) strictly) (rw are at room))
 
+  -- which stands at the front of the output that it was written to
+  shortened-front : (w : Written) (out₀ out₁ : List ℕ) → Writes (touchDraft (a .time) (recordsRead a after)) w out₀ out₁ → length message ≤ length out₀ → take (w .bytes) out₁ ≡ shortened
+  shortened-front w out₀ out₁ k room =
+      written-front shortened w out₀ out₁ (wrote-room (touchDraft (a .time) (recordsRead a after)) shortened w out₀ out₁ shortened-drafted k (omega (arith, shortened-longest, room)))
+
 -- of two readings with the same outcome, what was accepted is written back the same
 same-content : (time : Milliseconds) (fs : List (Frame Contact)) (message : List ℕ) (a : PlainAnswer) (before after : List ℕ) (hm : Bytes message) (x : Accepted false message a before after)
     → Read time (framesBytes touchRecord fs) a before after → touchDraft time (framesBytes touchRecord fs) ≡ bytes (shortened message a before after hm x)
@@ -244,13 +249,26 @@ twice message a before after w out₀ out₁ hm h z k room b before′ after′ 
     let m = x .content in
     let s = shortened message a before after hm x in
     let long = shortened-longest message a before after hm x in
-    let o = wrote-room (touchDraft (a .time) (recordsRead a after)) s w out₀ out₁ (shortened-drafted message a before after hm x) k (omega (arith, long, room)) in
-    let front : take (w .bytes) out₁ ≡ s = written-front s w out₀ out₁ o in
+    let front : take (w .bytes) out₁ ≡ s = shortened-front message a before after hm x w out₀ out₁ k room in
     let u = accepted false s b before′ after′ (rw front at j) y in
     let c : m ≡ u .content = let p = accepted-is-read-again message m (x .rest) hm (x .read) false in let q = u .read in cc in
     let e : touchDraft (u .content .time) (framesBytes touchRecord (u .content .frames)) ≡ bytes s =
     (λ n. touchDraft (sym c n .time) (framesBytes touchRecord (sym c n .frames))) ∙ accepted-is-written-back message m (x .rest) hm (x .read) in
     rw front (wrote-room (touchDraft (b .time) (recordsRead b after′)) s v out₂ out₃ (drafted false s b before′ after′ u s e) l (omega (arith, long, more)))
+
+-- the message and what was written back are read the same
+pub record ReadAlike (message other : List ℕ) : Type 0 where
+  pub content : Touch
+  pub rest : List ℕ
+  pub one : plainly message ≡ got content rest
+  pub two : plainly other ≡ got content []
+
+pub written-alike : (message : List ℕ) (a : PlainAnswer) (before after : List ℕ) (w : Written) (out₀ out₁ : List ℕ) → Bytes message → ReadsPlainly message a before after → a .refusal ≡ none
+    → Writes (touchDraft (a .time) (recordsRead a after)) w out₀ out₁ → length message ≤ length out₀ → ReadAlike message (take (w .bytes) out₁)
+written-alike message a before after w out₀ out₁ hm h z k room =
+    let x = accepted false message a before after h z in
+    let again = accepted-is-read-again message (x .content) (x .rest) hm (x .read) false in
+    record { content = x .content; rest = x .rest; one = x .read; two = ap plainly (shortened-front message a before after hm x w out₀ out₁ k room) ∙ again }
 
 read-back : (strictly : Bool) (time : Milliseconds) (records : List ℕ) (w : Written) (before after : List ℕ) (a : PlainAnswer) (out₀ out₁ : List ℕ) → Bytes records
     → Writes (touchDraft time records) w before after → w .refusal ≡ none

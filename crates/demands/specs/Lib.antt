@@ -4,3 +4,4 @@ pub mod RoundTrip
 pub mod Histories
 pub mod Whole
 pub mod FirstFault
+pub mod Padding

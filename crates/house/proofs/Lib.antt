@@ -3,5 +3,6 @@ pub mod Twos
 pub mod Filling
 pub mod WellFormed
 pub mod Front
+pub mod Records
 pub mod Round
 pub mod Unique

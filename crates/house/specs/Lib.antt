@@ -5,4 +5,5 @@ pub mod Layout
 pub mod WellFormed
 pub mod Fits
 pub mod Parts
+pub mod Records
 pub mod Filling

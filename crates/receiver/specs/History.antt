@@ -12,6 +12,7 @@ use Rattle.formats.specs.Format.{Got, got, bad, andThen}
 use Rattle.fields.specs.Integers.{taken}
 use Rattle.states.specs.Table.{next as nextState}
 use Rattle.house.specs.Layout.{recordOf}
+use Rattle.house.specs.Records as house
 use Rattle.house.specs.declared.Point.{Point}
 use Rattle.house.specs.declared.Contact.{Contact}
 use Rattle.house.specs.declared.Record.{Record}
@@ -161,7 +162,7 @@ pub record AsRested (r : Receiver) (x y : Sent) (fs : List (Frame Contact)) (mor
 
 -- as many records as bytes hold; a last one that is not whole is read as refused
 abbrev pub recordsIn : List ℕ → List Record
-recordsIn l = paths.recordsIn recordOf l
+recordsIn l = house.recordsIn recordOf l
 
 -- what a path asks of a record
 abbrev pub seenIn : Record → Seen

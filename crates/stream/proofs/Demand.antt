@@ -9,11 +9,12 @@ use Rattle.states.specs.Table.{out}
 use Rattle.house.specs.declared.Point.{Point}
 use Rattle.framing.specs.Frame.{Frame, timedFrames}
 use Rattle.framing.proofs.Timed.{timed-length}
+use Rattle.house.specs.Records.{recordsIn}
 use Rattle.machine.specs.Table.{Table, contacts, stateAt, placeAt, origin, resting}
 use Rattle.machine.specs.Machine.{cancels}
 use Rattle.machine.proofs.Machine.{total, counts-total}
 use Rattle.stream.specs.Stream.{Profile, Stream, Given, framesGiven, opens, unopened, Unopened, Silent, NoneActive, machineAt, bytesAt, countsAt, CancelledAfter, next, wrote, after, written, AsRested}
-use Rattle.stream.specs.Path.{Seen, recordsIn, path, at}
+use Rattle.stream.specs.Path.{Seen, path, at}
 use Rattle.stream.specs.Asked.{Laws, All, FrameFits, AllProper}
 use Rattle.stream.proofs.Steadiness.{none-active-rests, resting-steady}
 use Rattle.stream.proofs.Kept.{Kept, all-front, frames-kept, next-kept}

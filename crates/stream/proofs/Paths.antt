@@ -1,6 +1,6 @@
 -- Each contact's records are a legal path from out of range, which ends where the stream has it.
 -- Assumes nothing.
-use Prim.Native.Nat.{ℕ, zero, suc, _+_, _/_, _≤_, _<_}
+use Prim.Native.Nat.{ℕ, zero, suc, _+_, _≤_, _<_}
 use mathlib.Core.Path.{_≡_, refl, sym, ap, _∙_}
 use mathlib.Core.Bool.{Bool, true, false, cond}
 use mathlib.Core.List.{List, [], _∷_, _++_, append-assoc, append-nil}
@@ -8,14 +8,15 @@ use native.Mathlib.Omega.{arith}
 use borrow.Author.Tests.{eqb-true, eqb-false, eq-eqb, ne-eqb, not-true, ltb-true, ltb-false}
 use lib.Dec.{eqb, ltb, lit<, lit≤}
 use lib.IntN.{ℤ, pos, negsuc}
-use lib.ListN.{length, length-append}
-use lib.Seq.{drop-at}
+use lib.ListN.{length}
 use Rattle.states.specs.Table.{out, hovering, illegal}
 use Rattle.house.specs.Fields.{recordBytes}
 use Rattle.house.specs.Fits.{HeadFits}
 use Rattle.house.specs.Layout.{headBytes, touched, cancelled as cancelKind, dismissed as dismissKind}
+use Rattle.house.specs.Records.{recordsFrom, recordsIn}
 use Rattle.house.specs.declared.Point.{Point}
 use Rattle.house.specs.declared.Head.{Head}
+use Rattle.house.proofs.Records.{records-one}
 use Rattle.house.proofs.Round.{length-head}
 use Rattle.house.proofs.WellFormed.{never}
 use Rattle.framing.specs.Frame.{Frame, headOf, timedFrames, contactsBytes, frameBytes}
@@ -27,18 +28,10 @@ use Rattle.machine.proofs.Table.{state-same, place-same, state-other, place-oth
 use Rattle.machine.proofs.Conforms.{every-first, every-others, distinct-first, distinct-others, legal-behind, stays-behind}
 use Rattle.machine.proofs.Machine.{cancel-active, cancel-out}
 use Rattle.stream.specs.Stream.{Profile, Stream, Given, nothing, settings, frames, dismissal, next, wrote, after, written}
-use Rattle.stream.specs.Path.{recordsFrom, recordsIn, Seen, head, contact, Path, at, andOn, ofKind, mayStep, stepped, pathStep, path}
+use Rattle.stream.specs.Path.{Seen, head, contact, Path, at, andOn, ofKind, mayStep, stepped, pathStep, path}
 use Rattle.stream.specs.Asked.{Laws, All, FrameFits, Proper, AllProper}
 use Rattle.stream.proofs.Steadiness.{Sound, Conforming, conforming, moved-sound, Judged, judged, injects, ignores, Steady, step-steady, beyond}
 use Rattle.stream.proofs.Kept.{Kept, next-kept, timed-fit}
-
--- ---- records, one after the other
-
-records-one : {R : Type 0} (read : List ℕ → R) (s t : List ℕ) → length s ≡ recordBytes → recordsIn read (s ++ t) ≡ read (s ++ t) ∷ recordsIn read t
-unfolding recordsIn recordsFrom
-records-one read s t h =
-    let n : (length (s ++ t) + 20) / recordBytes ≡ suc ((length t + 20) / recordBytes) = rw (length-append s t) (omega arith) in
-    rw n (ap (λ (l : List ℕ). read (s ++ t) ∷ recordsFrom read ((length t + 20) / recordBytes) l) (drop-at s t recordBytes h))
 
 -- ---- bytes that lead a contact from one state and position to another, whatever follows
 

@@ -24,11 +24,12 @@ use Rattle.house.proofs.Round.{length-head, kind-head}
 use Rattle.house.proofs.Front.{front-is, front-long}
 use Rattle.house.proofs.WellFormed.{never}
 use Rattle.framing.specs.Frame.{Frame}
+use Rattle.house.specs.Records.{recordsIn}
 use Rattle.machine.specs.Table.{Table, contacts, stateAt, placeAt, origin, active}
 use Rattle.machine.specs.Rules.{View}
 use Rattle.machine.specs.Machine.{cancelFlags}
 use Rattle.stream.specs.Stream.{Profile, Stream, Given, opens, Unopened, Silent, NoneActive, rested, machineAt, after, written, AsRested}
-use Rattle.stream.specs.Path.{Seen, head, contact, refused, recordsIn, path, at}
+use Rattle.stream.specs.Path.{Seen, head, contact, refused, path, at}
 use Rattle.stream.specs.Asked.{TableLaw, Laws, All, FrameFits, AllProper}
 use Rattle.stream.proofs.Kept.{Kept}
 use Rattle.stream.proofs.Demand.{each-contact's-records-are-a-legal-path, from-an-opening-frame-as-if-rested, a-silent-stream-writes-nothing-until-an-opening-frame}

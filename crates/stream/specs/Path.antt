@@ -1,27 +1,13 @@
 -- The path of a contact through records: "each contact's records are a legal path through the three states from out of range".
-use Prim.Native.Nat.{ℕ, zero, suc, _+_, _/_}
+use Prim.Native.Nat.{ℕ}
 use mathlib.Core.Bool.{Bool, true, false, cond}
 use mathlib.Core.List.{List, [], _∷_}
 use lib.Dec.{eqb}
-use lib.ListN.{length, drop}
 use Rattle.states.specs.Table.{illegal}
-use Rattle.house.specs.Fields.{recordBytes}
 use Rattle.house.specs.Layout.{touched, cancelled, dismissed}
 use Rattle.house.specs.declared.Point.{Point}
 use Rattle.machine.specs.Conforms.{lifts, samePlace, placeIn}
 use Rattle.machine.specs.Machine.{cancelFlags}
-
--- ---- records in bytes, over what is read at the front of a slice
-
-module _ {R : Type 0} (read : List ℕ → R) where
-  -- n records, each of 21 bytes
-  unfoldable pub recordsFrom : ℕ → List ℕ → List R
-  recordsFrom zero l = []
-  recordsFrom (suc n) l = read l ∷ recordsFrom n (drop recordBytes l)
-
-  -- as many as bytes hold, a last one that is not whole too
-  unfoldable pub recordsIn : List ℕ → List R
-  recordsIn l = recordsFrom ((length l + 20) / recordBytes) l
 
 -- ---- what a path asks of a record: a contact's kind, flags, id and position
 

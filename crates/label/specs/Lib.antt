@@ -1,0 +1,2 @@
+-- Lists of buttons that are lent.
+pub mod Lists

@@ -1,0 +1,4 @@
+-- Presses on buttons.
+pub mod Buttons
+pub mod Choosing
+pub mod Turns

@@ -1,0 +1,89 @@
+-- How a run over records goes, one record a turn, for whoever looks up the buttons between the turns.
+use Prim.Native.Nat.{ℕ, zero, suc, _+_, _*_, _-_, _/_, _%_, _^_}
+use mathlib.Core.Bool.{Bool, true, false, cond}
+use mathlib.Core.List.{List, [], _∷_}
+use lib.Dec.{eqb, leb, ltb}
+use lib.IntN.{pos}
+use lib.ListN.{length, drop, set}
+use Rattle.paper.specs.Refusals.{none, noRoom, badRecord}
+use Rattle.house.specs.Fields.{recordBytes}
+use Rattle.house.specs.Layout.{recordOf}
+use Rattle.house.specs.declared.Point.{Point}
+use Rattle.house.specs.declared.Record.{Record}
+use Rattle.house.specs.declared.Record.the-variants as Record
+use Rattle.presses.specs.declared.Label.{Label}
+use Rattle.presses.specs.declared.Hit.{Hit}
+use Rattle.presses.specs.declared.Look.{Look}
+use Rattle.presses.specs.declared.Run.{Run}
+use Rattle.presses.specs.declared.Chosen.{Chosen}
+use Rattle.presses.specs.Buttons.{nowhere}
+use Rattle.presses.specs.Choosing.{Choice, looks, pointOf, recordKept, recordChosen, isTaken}
+
+-- whether a record looks at buttons, and where
+abbrev pub looksIn : Record → Bool
+looksIn (Record.Head h) = false
+looksIn (Record.Contact kind c) = looks (c .flags)
+looksIn (Record.Refused e) = false
+
+abbrev pub noLook : Look
+noLook = record { due = false; point = record { x = pos 0; y = pos 0 } }
+
+unfoldable pub lookAt : List ℕ → ℕ → Look
+lookAt l at = let r : Record = recordOf (drop at l) in record { due = looksIn r; point = pointOf r }
+
+-- what the record at a place looks at
+unfoldable pub hitAt : (Point → Hit) → List ℕ → ℕ → Hit
+hitAt hit l at = cond (lookAt l at .due) (hit (lookAt l at .point)) nowhere
+
+-- choices put into a list of numbers behind n others, each where there is room, or none of them
+unfoldable pub putChoices : Bool → ℕ → List Choice → List ℕ → List ℕ
+putChoices writing n [] out = out
+putChoices writing n (c ∷ cs) out =
+    putChoices writing (suc n) cs
+    (cond writing (cond (ltb n (length out / 2)) (set (set out (2 * n) (c .id)) (2 * n + 1) (c .item)) out) out)
+
+-- a run, and the list of numbers
+pub record Went : Type 0 where
+  pub run : Run
+  pub out : List ℕ
+
+abbrev pub begun : Label → Run
+begun l = record { label = l; at = 0; count = 0 }
+
+abbrev pub nextAt : ℕ → ℕ → ℕ
+nextAt n at = cond (leb (at + recordBytes) n) (at + recordBytes) n
+
+-- a run's count is a number of 64 bits
+abbrev pub countOn : Bool → ℕ → ℕ
+countOn chose n = cond chose ((n + 1) % 2 ^ 64) n
+
+unfoldable pub counted : List Choice → ℕ → ℕ
+counted [] n = n
+counted (c ∷ cs) n = counted cs (countOn true n)
+
+-- a turn over a record, which looks at the button h, and behind which the next one stands
+unfoldable pub turnedBy : Hit → Record → ℕ → Bool → Went → Went
+turnedBy h r next writing w =
+    let cs : List Choice = recordChosen h (w .run .label .pressed) r in
+    record {
+      run = record { label = recordKept h (w .run .label) r; at = next; count = counted cs (w .run .count) };
+      out = putChoices writing (w .run .count) cs (w .out);
+    }
+
+unfoldable pub wentOn : Hit → List ℕ → Bool → Went → Went
+wentOn h l writing w = turnedBy h (recordOf (drop (w .run .at) l)) (nextAt (length l) (w .run .at)) writing w
+
+unfoldable pub turns : ℕ → (Point → Hit) → List ℕ → Bool → Went → Went
+turns zero hit l writing w = w
+turns (suc k) hit l writing w = turns k hit l writing (wentOn (hitAt hit l (w .run .at)) l writing w)
+
+-- as many turns as there are records left
+unfoldable pub driven : (Point → Hit) → List ℕ → Bool → Went → Went
+driven hit l writing w = turns ((length l - w .run .at + 20) / recordBytes) hit l writing w
+
+-- 14, then 13, of a run that counted the choices
+abbrev pub ruled : Label → List ℕ → Run → ℕ → ℕ
+ruled l records counted numbers = cond (isTaken (l .states) records) (cond (leb (counted .count) (numbers / 2)) none noRoom) badRecord
+
+abbrev pub concluded : Label → Run → ℕ → Chosen
+concluded l run e = cond (eqb e none) (record { label = run .label; refusal = none; count = run .count }) (record { label = l; refusal = e; count = 0 })

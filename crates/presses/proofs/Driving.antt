@@ -15,7 +15,7 @@ use Rattle.presses.specs.Turns.{hitAt, Went, nextAt, turnedBy, wentOn, t
 
 -- ---- where the next record stands
 
-next-is : (n at : ℕ) → at < n → (at < nextAt n at) × (nextAt n at ≤ n) × ((n - at + 20) / 21 ≡ suc ((n - nextAt n at + 20) / 21))
+pub next-is : (n at : ℕ) → at < n → (at < nextAt n at) × (nextAt n at ≤ n) × ((n - at + 20) / 21 ≡ suc ((n - nextAt n at + 20) / 21))
 next-is n at h = go (leb (at + recordBytes) n) refl
   where
     go : (b : Bool) → leb (at + recordBytes) n ≡ b → (at < cond b (at + recordBytes) n) × (cond b (at + recordBytes) n ≤ n) × ((n - at + 20) / 21 ≡ suc ((n - cond b (at + recordBytes) n + 20) / 21))

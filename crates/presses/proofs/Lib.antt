@@ -1,3 +1,6 @@
 pub mod Judging
 pub mod Turns
 pub mod Driving
+pub mod Putting
+pub mod Concluding
+pub mod Unique

@@ -1,5 +1,6 @@
 -- Document 02, #105: "a list of buttons, each a rectangle with an item number and a mark for shown or hidden", and which of them a point is in.
-use Prim.Native.Nat.{ℕ, suc}
+use Prim.Native.Nat.{ℕ, suc, _+_}
+use mathlib.Core.Path.{_≡_}
 use mathlib.Core.Bool.{Bool, cond, not, _&&_}
 use mathlib.Core.List.{List, [], _∷_}
 use lib.Dec.{eqb, ltb}
@@ -39,7 +40,7 @@ nowhere = record { number = 0; item = 0 }
 
 -- the button at a place, or none where the list has no such place
 abbrev pub hitOf : List Button → ℕ → Hit
-hitOf bs place = cond (ltb place (length bs)) (record { number = suc place; item = buttonAt bs place .item }) nowhere
+hitOf bs place = cond (ltb place (length bs)) (record { number = place + 1; item = buttonAt bs place .item }) nowhere
 
 unfoldable pub hitIn : List Button → Point → Hit
 hitIn bs p = hitOf bs (placeOf bs p)
@@ -50,3 +51,8 @@ marked shown b = record { item = b .item; left = b .left; top = b .top; right = 
 
 abbrev pub withShown : List Button → ℕ → ℕ → List Button
 withShown bs place shown = set bs place (marked shown (buttonAt bs place))
+
+-- the call: the answer is whether there is such a button
+pub record SetsShown (bs : List Button) (place shown : ℕ) (there : Bool) (after : List Button) : Type 0 where
+  pub answer : there ≡ ltb place (length bs)
+  pub list : after ≡ cond (ltb place (length bs)) (withShown bs place shown) bs

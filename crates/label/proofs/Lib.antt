@@ -1,3 +1,5 @@
 -- What is shown of lent lists of buttons.
 pub mod Places
 pub mod Unique
+pub mod Again
+pub mod Held

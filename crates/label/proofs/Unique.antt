@@ -5,9 +5,8 @@ use mathlib.Core.Path.{_≡_, sym, _∙_}
 use mathlib.Core.Bool.{Bool}
 use mathlib.Core.List.{List}
 use Rattle.house.specs.declared.Point.{Point}
-use Rattle.presses.specs.Buttons.{placeOf}
+use Rattle.presses.specs.Buttons.{placeOf, SetsShown}
 use Rattle.presses.specs.declared.Button.{Button}
-use Rattle.label.specs.Lists.{SetsShown}
 
 pub button-at-unique : (bs : List Button) (p : Point) (a b : ℕ) → a ≡ placeOf bs p → b ≡ placeOf bs p → a ≡ b
 button-at-unique bs p a b e f = e ∙ sym f

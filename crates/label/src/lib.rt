@@ -3,9 +3,8 @@ use presses::Button;
 use presses::Chosen;
 use presses::Label;
 ghost use mathlib.Core.Path.{_≡_};
-ghost use Rattle.presses.specs.Buttons.{placeOf, hitIn};
+ghost use Rattle.presses.specs.Buttons.{placeOf, hitIn, SetsShown};
 ghost use Rattle.presses.specs.Choosing.{Chooses};
-ghost use Rattle.label.specs.Lists.{SetsShown};
 
 mod drive;
 mod search;

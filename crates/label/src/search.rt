@@ -3,7 +3,7 @@ use presses::Button;
 use presses::Hit;
 ghost use mathlib.Core.Path.{_≡_};
 ghost use mathlib.Core.Bool.{not};
-ghost use Prim.Native.Nat.{suc, _+_, _^_, _<_};
+ghost use Prim.Native.Nat.{_+_, _^_, _<_};
 ghost use Rattle.presses.specs.Buttons.{holds, nowhere, hitOf, hitIn};
 ghost use Rattle.presses.specs.Turns.{hitAt};
 ghost use Rattle.label.specs.Lists.{passed};
@@ -29,7 +29,7 @@ pub(crate) fn passes(buttons: &[Button], at: usize, x: i32, y: i32) -> bool
 // The button at a place, as it is hit.
 fn hit(button: Button, place: usize) -> Hit
     requires { ⌜ place + 1 < 2 ^ 64 ⌝ }
-    ensures { λ r. ⌜ r ≡ record { number = suc place; item = button .item } ⌝ }
+    ensures { λ r. ⌜ r ≡ record { number = place + 1; item = button .item } ⌝ }
 {
     Hit {
         number: place + 1,

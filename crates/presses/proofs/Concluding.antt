@@ -79,7 +79,7 @@ module _ (hit : Point → Hit) (l : List ℕ) (at : ℕ) where
   chosen-here pressed = ap (λ (h : Hit). recordChosen h pressed here) hit-is ∙ chosen-by here (looksIn here) pressed refl
 
 -- a record is one choice at most
-one-choice : (h : Hit) (pressed : List ℕ) (r : Record) → length (recordChosen h pressed r) ≤ 1
+pub one-choice : (h : Hit) (pressed : List ℕ) (r : Record) → length (recordChosen h pressed r) ≤ 1
 unfolding recordChosen
 one-choice h pressed (Record.Head x) = omega arith
 one-choice h pressed (Record.Contact kind c) = go (isChoice (c .flags) h (getD pressed (c .id) 0))

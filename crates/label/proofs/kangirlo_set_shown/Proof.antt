@@ -40,8 +40,7 @@ use denote.Triple.Spec.{Meets, tripleOf}
 use denote.Triple.Table.{entered}
 use denote.Triple.Walked.{says, Stays, stay-slice, stay-none, walkOf, AllGo, goes-slice, goes-none, Walks, ends-at, walked, walk-meets}
 use denote.Exit.{yes}
-use Rattle.label.specs.Lists.{SetsShown}
-use Rattle.presses.specs.Buttons.{blank, marked, buttonAt, withShown}
+use Rattle.presses.specs.Buttons.{blank, marked, buttonAt, withShown, SetsShown}
 use Rattle.presses.specs.declared.Button.{Button}
 use Rattle.presses.proofs.Button as T
 use Rattle.presses.proofs.Button.Laws as T′

@@ -84,7 +84,7 @@ abbrev pub isTaken : List ℕ → List ℕ → Bool
 isTaken states l = isTakenFrom 0 states l
 
 -- ---- "A choice is a contact that goes engaged inside one shown button and ends that by 0x04 or 0x0C inside the same one, then shown too, with no
--- cancel between.": theorem `boats · Meant · every-choice` says that what follows is this sentence
+-- cancel between.": theorem `boats · Every · every-choice` says that what follows is this sentence
 
 -- "Choices, each a contact id and an item number"
 pub record Choice : Type 0 where

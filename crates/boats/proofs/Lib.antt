@@ -1,0 +1,12 @@
+pub mod Among
+pub mod Inside
+pub mod Held
+pub mod Answering
+pub mod Taking
+pub mod Shown
+pub mod Ended
+pub mod Every
+pub mod Parts
+pub mod Cutting
+pub mod Following
+pub mod Joined

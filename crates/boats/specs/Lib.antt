@@ -1,0 +1,5 @@
+-- Which boat was meant.
+pub mod Meant
+pub mod Calls
+pub mod Cutting
+pub mod Joined

@@ -4,16 +4,19 @@ import random
 import sys
 
 import corpus
+import labels
 import make_batch
+import make_choices
 import make_panel
 import make_plain
 import padded_play
 import panels
 from corpus import contact, frame
 from histories import History
-from reference import entries, house, integers, messages, panel, programs, receiver
+from reference import entries, house, integers, label, messages, panel, programs, receiver
 from reference.batch import Batch, receive_all
 from reference.integers import S2, S4, U2, U4, U8
+from reference.label import Choice, Chosen, Label, choose
 from reference.refusals import Refused
 
 SEED = 20260101
@@ -785,6 +788,194 @@ def in_two_batches(keeper, payloads, at, room, places):
     return keeper, answer, first_answers + second_answers, output
 
 
+# Boat list buttons: a file with its bytes written out, and what 'choices' prints for it.
+
+# Item 501 and just the point 100, 50; item 0 and all from -2^31 on, hidden.
+POINT_BUTTON = "00 00 01 F5 00 00 00 64 00 00 00 32 00 00 00 65 00 00 00 33 01"
+WIDE_BUTTON = "00 00 00 00 80 00 00 00 80 00 00 00 7F FF FF FF 7F FF FF FF 00"
+PRESS, LIFT_OFF = f"{HEAD} {DOWN_RECORD}", f"{HEAD} {LIFT_RECORD}"
+# Kind 2, 0x24, id 1; kind 3, 0x02, id 1.
+CANCEL_RECORD, DISMISSAL_RECORD = (f"{first} 00 20" + " 00" * 18 for first in ("A4", "C2"))
+
+CHOICES_FILE = (
+    ("", "bad"),
+    ("31", "bad"),
+    ("02 00 00 01", "none"),
+    (f"03 00 00 {PRESS}", "0 0"),
+    ("01", "set"),
+    (f"03 00 00 {LIFT_OFF}", "14 0"),
+    (f"01 {POINT_BUTTON} {WIDE_BUTTON}", "set"),
+    (f"03 00 00 {PRESS}", "0 0"),
+    (f"01 {POINT_BUTTON} 00", "bad"),
+    (f"01 {POINT_BUTTON * 65}", "bad"),
+    (f"03 00 00 {LIFT_OFF}", "13 0"),
+    (f"03 00 00 {LIFT_OFF} 00", "14 0"),
+    (f"03 00 00 {LIFT_OFF} {DISMISSAL_RECORD}", "14 0"),
+    (f"03 00 01 {LIFT_OFF}", "0 1 1:501"),
+    (f"03 00 02 {PRESS} {LIFT_OFF} {PRESS} {LIFT_OFF} {PRESS}", "0 2 1:501 1:501"),
+    ("02 00 00 00", "set"),
+    ("02 00 01 FF", "set"),
+    (f"03 00 02 {LIFT_OFF} {PRESS} {LIFT_OFF}", "0 1 1:0"),
+    ("02 00 00", "bad"),
+    ("02 00 02 00", "none"),
+    (f"03 00 00 {PRESS} {CANCEL_RECORD}", "0 0"),
+    (f"03 00 00 {CANCEL_RECORD}", "14 0"),
+    ("03 00", "bad"),
+    ("03 00 00", "0 0"),
+)
+
+
+def check_choices_file():
+    data = entries.join(bytes.fromhex(text) for text, _ in CHOICES_FILE)
+    want = "".join(f"{number} {line}\n" for number, (_, line) in enumerate(CHOICES_FILE, 1))
+    same("choices file", programs.choices(data), want)
+    same("choices file cut", programs.choices(data + b"\0\4\3\0\0"), want + f"{len(CHOICES_FILE) + 1} cut\n")
+    same("no choices file", programs.choices(b""), "")
+
+
+# Document 02's sentence over the records: no step from state to state, but for each record a look back at its
+# contact's own. A contact's path has its records, each with the buttons of that time.
+
+COMES, HOVERS_ON, STAYS_DOWN = (0x0A, 0x19), (0x0A, 0x19, 0x02, 0x22), (0x1A, 0x0C, 0x04, 0x24)
+MAY_FOLLOW = {0x0A: HOVERS_ON, 0x0C: HOVERS_ON, 0x19: STAYS_DOWN, 0x1A: STAYS_DOWN}
+
+
+def may_end(path):
+    """Whether the last record may follow the one before it, or be the first."""
+    flags = [one.flags for one, _ in path]
+    return flags[-1] in (MAY_FOLLOW.get(flags[-2], COMES) if flags[1:] else COMES)
+
+
+def in_order(records):
+    """Kind 1 stands exactly in the places that the heads speak of."""
+    ones = [house.unpack(record) for record in chunks(records)]
+    heads = [(place, one.count) for place, one in enumerate(ones) if isinstance(one, house.Head)]
+    spoken_of = {place + each for place, count in heads for each in range(1, count + 1)}
+    return spoken_of == {place for place, one in enumerate(ones) if isinstance(one, house.Contact) and one.kind == 1}
+
+
+def inside(one, buttons):
+    holding = [
+        place
+        for place, (_, left, top, right, bottom, shown) in enumerate(buttons)
+        if shown != 0 and one.x in range(left, right) and one.y in range(top, bottom)
+    ]
+    return min(holding, default=None)
+
+
+def chosen_at_end(path):
+    """The item that a path's last record chooses; None for none."""
+    lift, buttons = path[-1]
+    if lift.flags not in (0x04, 0x0C):
+        return None
+    went_down = max(place for place, (one, _) in enumerate(path) if one.flags == 0x19)
+    place = inside(*path[went_down])
+    cancelled = any(one.kind == 2 or one.flags == 0x24 for one, _ in path[went_down:])
+    return buttons[place].item if place is not None and place == inside(lift, buttons) and not cancelled else None
+
+
+def by_the_sentence(paths, buttons, records, room):
+    """The paths after the records, the answer and the choices."""
+    whole = len(records) % 21 == 0 and all(map(house.well_formed, chunks(records)))
+    if not whole or not in_order(records):
+        return paths, Chosen(14, 0), []
+    after, chosen = dict(paths), []
+    for one in map(house.unpack, chunks(records)):
+        if isinstance(one, house.Head):
+            continue
+        after[one.id] = after.get(one.id, []) + [(one, buttons)]
+        if not may_end(after[one.id]):
+            return paths, Chosen(14, 0), []
+        item = chosen_at_end(after[one.id])
+        chosen += [] if item is None else [Choice(one.id, item)]
+    return (paths, Chosen(13, 0), []) if len(chosen) > room else (after, Chosen(0, len(chosen)), chosen)
+
+
+# The laws of choosing, over the corpus.
+
+
+def check_choice_laws(rng):
+    screen, paths = programs.BLANK, {}
+    for payload in make_choices.all_calls().entries:
+        after, text = programs.screen_call(screen, payload)
+        if payload[:1] == b"\1" and text == "set":
+            paths = {}
+        if payload[:1] == b"\3" and text != "bad":
+            room, records = int.from_bytes(payload[1:3], "big"), payload[3:]
+            paths = check_choose(rng, screen, paths, records, room)
+        screen = after
+
+
+def check_choose(rng, screen, paths, records, room):
+    """The paths after a call: it answers by the sentence; a refusal changes nothing; cut in two it is the same."""
+    after, answer, lent = choose_with(screen.label, screen.buttons, records, room)
+    paths, want, chosen = by_the_sentence(paths, screen.buttons, records, room)
+    same(f"{records.hex()} chosen", (answer, lent), (want, chosen + lent_list(room - len(chosen))))
+    if answer.refusal != 0:
+        same(f"{records.hex()} refused", after, screen.label)
+        return paths
+    borders = [place for place, record in enumerate(chunks(records)) if house.kind_of(record) != 1]
+    for place in rng.sample(borders, min(3, len(borders))):
+        have = in_two_calls(screen, records, place * house.LENGTH, room)
+        same(f"{records.hex()} cut before {place}", have, (after, answer, lent))
+    ids = sorted({one.id for one in label.contacts_of(records)})
+    for contact_id in rng.sample(ids, min(2, len(ids))):
+        check_one_contact(screen, records, contact_id, after, lent[: answer.count])
+    return paths
+
+
+def choose_with(before, buttons, records, room):
+    lent = lent_list(room)
+    after, answer = choose(before, buttons, records, lent)
+    return after, answer, lent
+
+
+def in_two_calls(screen, records, at, room):
+    """Cut between frames, the second call with the room that is left."""
+    middle, first, some = choose_with(screen.label, screen.buttons, records[:at], room)
+    after, second, others = choose_with(middle, screen.buttons, records[at:], room - first.count)
+    answer = Chosen(first.refusal or second.refusal, first.count + second.count)
+    return after, answer, some[: first.count] + others
+
+
+def check_one_contact(screen, records, contact_id, after, chosen):
+    """The other contacts' records change nothing of its choices, nor of what is kept of it."""
+    alone = label_of_one(screen.label, contact_id)
+    left, answer, lent = choose_with(alone, screen.buttons, records_of_one(records, contact_id), len(chosen))
+    same(f"{contact_id} alone", lent[: answer.count], [each for each in chosen if each.id == contact_id])
+    same(f"{contact_id} alone leaves", left, label_of_one(after, contact_id))
+
+
+def label_of_one(whole, contact_id):
+    return Label({each: kept for each, kept in whole.held.items() if each == contact_id})
+
+
+def records_of_one(records, contact_id):
+    """One contact's records; each frame keeps its head, which counts what is left of it."""
+    result, count = [], 0
+    for record in reversed(chunks(records)):
+        one = house.unpack(record)
+        if isinstance(one, house.Head):
+            result.append(house.pack_head(one._replace(count=count)))
+            count = 0
+        elif one.id == contact_id:
+            result.append(record)
+            count += one.kind == 1
+    return b"".join(reversed(result))
+
+
+def check_marks(rng):
+    """One button's mark is changed, and nothing else; a place past the end changes nothing."""
+    for _ in range(200):
+        buttons = labels.random_list(rng)
+        lent, place, shown = list(buttons), rng.randrange(len(buttons) + 2), rng.randrange(256)
+        same("marked", label.set_shown(lent, place, shown), place < len(buttons))
+        want = [(*each[:5], shown if at == place else each.shown) for at, each in enumerate(buttons)]
+        same("marks", lent, want)
+        x, y = labels.spot(rng, lent)
+        same("place", label.button_at(lent, x, y), inside(contact(1, 0x19, x, y), lent))
+
+
 def main():
     rng = random.Random(SEED)
     check_integers()
@@ -812,6 +1003,9 @@ def main():
     check_batch_file()
     check_receiver_rules_in_batches()
     check_batch_laws(rng)
+    check_choices_file()
+    check_choice_laws(rng)
+    check_marks(rng)
     for difference in differences:
         print(difference)
     print("differences", len(differences))

@@ -1,7 +1,11 @@
 """What each test program prints for a given standard input."""
 
+import struct
+from typing import NamedTuple
+
 from . import entries, house, integers, messages, receiver
 from .batch import receive_all
+from .label import Button, Label, choose, set_shown
 from .output import Written, written
 from .panel import Panel, take, write_dismiss, write_ready, write_touch
 from .refusals import BAD_RECORD, NONE, Refused
@@ -12,6 +16,7 @@ MOST_LENT_TO_PANEL = messages.LONGEST_MESSAGE
 MOST_LENT_TO_BATCH = 131072
 MOST_PLACES_OF_BATCH = 4096
 LONGEST_LENT_TO_VECTORS = 32
+MOST_BUTTONS = 64
 FILLING = 0xEE
 
 
@@ -251,6 +256,72 @@ CALLS = {
     b"\2": ready_call,
     b"\3": touch_call,
     b"\6": dismiss_call,
+}
+
+
+# choices: one list of buttons and one label, to which each entry is a call
+
+# Item, left, top, right, bottom, shown.
+BUTTON = struct.Struct(">I4iB")
+
+
+class Screen(NamedTuple):
+    buttons: list
+    label: Label
+
+
+BLANK = Screen([], Label())
+
+
+def choices(data):
+    texts = screen_lines(data)
+    return lines(data, lambda _payload: next(texts))
+
+
+def screen_lines(data):
+    payloads, _ = entries.split(data)
+    screen = BLANK
+    for payload in payloads:
+        screen, text = screen_call(screen, payload)
+        yield text
+
+
+def screen_call(screen, payload):
+    """The screen after an entry, and its line but for the number."""
+    run = SCREEN_CALLS.get(payload[:1])
+    return (run and run(screen, payload[1:])) or (screen, "bad")
+
+
+def list_call(_screen, rest):
+    """A new list; all contacts are out."""
+    if len(rest) % BUTTON.size != 0 or len(rest) > MOST_BUTTONS * BUTTON.size:
+        return None
+    return Screen([Button(*values) for values in BUTTON.iter_unpack(rest)], Label()), "set"
+
+
+def mark_call(screen, rest):
+    """Place, shown."""
+    if len(rest) != 3:
+        return None
+    buttons = list(screen.buttons)
+    found = set_shown(buttons, big_endian(rest[:2]), rest[2])
+    return screen._replace(buttons=buttons), "set" if found else "none"
+
+
+def choose_call(screen, rest):
+    """Room, records."""
+    if len(rest) < 2:
+        return None
+    chosen = [None] * big_endian(rest[:2])
+    after, answer = choose(screen.label, screen.buttons, rest[2:], chosen)
+    words = [f"{each.id}:{each.item}" for each in chosen[: answer.count]]
+    return screen._replace(label=after), " ".join([*map(str, answer), *words])
+
+
+SCREEN_CALLS = {
+    b"\1": list_call,
+    b"\2": mark_call,
+    b"\3": choose_call,
 }
 
 

@@ -69,12 +69,12 @@ end-line-requires : tie.Need-end-line-requires Inv-loop μ-loop
 end-line-requires c κs = search needs
 
 loop-less : tie.Need-loop-less Inv-loop μ-loop
-loop-less c = 
+loop-less c =
     let k = c .before .before .before .before .before .before .before .before .before .before .before .before .before .before in
     omega (arith, rises _ _ _ (entry k .number) (c .before .before .end-line .ensures .number) (k .before .before .before .before .before .before .before .before .before .before .if1 .taken))
 
 loop-again : tie.Need-loop-again Inv-loop μ-loop
-loop-again c = 
+loop-again c =
     let a = c .before .before .before .before .before .before .before .before .before in
     let t = a .before .before .before .before .before .before .before .before .before .before .before .before in
     let i = t .before .before .before .before .before .loop .inv in

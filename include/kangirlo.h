@@ -1,18 +1,24 @@
-/* The two ends of the touch channel of [MS-RDPEI], for C11, for C++11, and for what links like C. The session host's end is in
- * libkangirlo.a, the panel's in libkangirlo_panel.a. Neither needs the other: a program that is both ends links both.
+/* The two ends of the touch channel of [MS-RDPEI], and the buttons that its touches mean, for C11, for C++11, and for what links like C.
+ * The session host's end is in libkangirlo.a, the panel's in libkangirlo_panel.a, the buttons of the label screen in liblabel.a. None
+ * needs the others: a program links those that it calls.
  *
  * Every call takes every input and ends. It reads and writes nothing but what it is lent, keeps nothing between calls, asks for no
  * memory, and is proved to do what its comment says. Bad input is refused by a number of the table below: a refusal has 0 in every
- * other field of the answer, and changes no receiver, no panel and not one byte of the output.
+ * other field of the answer, but for marks that came by value and go back as they were, and changes no receiver, no panel, no label
+ * and not one byte of the output.
  *
- * What is lent: a pointer and how many bytes stand there. The pointer is never null, also where there are 0 bytes, and what one
- * call is lent does not overlap. A receiver or a panel is plain memory without pointers: copy it, move it, keep it where you like;
- * one call at a time may use it. docs/HOST.md and docs/PANEL.md have worked examples and the stack that the calls take. */
+ * What is lent: a pointer and how much stands there. The pointer is never null, also where there is nothing, and what one call is
+ * lent does not overlap. A receiver, a panel or a label is plain memory without pointers: copy it, move it, keep it where you like;
+ * one call at a time may use it. docs/HOST.md, docs/PANEL.md and docs/LABEL.md have worked examples and the stack that the calls
+ * take. */
 #ifndef KANGIRLO_H
 #define KANGIRLO_H
 
 #include <stddef.h>
 #include <stdint.h>
+#ifndef __cplusplus
+#include <stdbool.h>
+#endif
 
 #ifdef __cplusplus
 extern "C" {
@@ -33,8 +39,8 @@ enum kangirlo_refusal {
 	KANGIRLO_BAD_RANGE = 10,    /* orientation, pressure; a value given to a writer */
 	KANGIRLO_BAD_OFFSET = 11,   /* the first frame's offset is not 0 */
 	KANGIRLO_TRAILING = 12,     /* bytes after the last field */
-	KANGIRLO_NO_ROOM = 13,      /* output shorter than what the call writes */
-	KANGIRLO_BAD_RECORD = 14,   /* a record that is not well formed */
+	KANGIRLO_NO_ROOM = 13,      /* output shorter than what the call writes; fewer places than choices */
+	KANGIRLO_BAD_RECORD = 14,   /* a record that is not well formed; for a label also one that breaks its frame or the state table */
 	KANGIRLO_NOT_READY = 15,    /* client ready before server ready was taken, or again; touch or dismiss before client ready */
 	KANGIRLO_SUSPENDED = 16,    /* touch while suspended */
 	KANGIRLO_ILLEGAL = 17,      /* a frame that would not conform; a dismissal of a contact that is not hovering */
@@ -180,6 +186,41 @@ struct kangirlo_record {
 	int32_t x;
 	int32_t y;
 	struct kangirlo_microseconds offset;    /* of a head: the time since the frame before */
+};
+
+/* A button of a screen: its left and top edges are inside, right and bottom outside. One whose left is not less than its right, or top not
+ * less than its bottom, holds no point. */
+struct kangirlo_button {
+	uint32_t item;          /* what the screen lists there, by a number of its own; several buttons may have the same */
+	int32_t left;
+	int32_t top;
+	int32_t right;
+	int32_t bottom;
+	uint8_t shown;          /* 0: hidden, and holds no point */
+};
+
+/* What a screen keeps of the contacts of one receiver. Keep it and lend it. A fresh one is all zeros. */
+struct kangirlo_label {
+	uint8_t states[256];    /* by contact id: 0 out of range, 1 hovering, 2 engaged, as in the receiver */
+	size_t pressed[256];    /* by contact id: the place of the button that it pressed plus 1, or 0; put 0 there to let go of a press */
+};
+
+/* One choice, as two numbers. */
+struct kangirlo_choice {
+	uint32_t id;            /* of the contact */
+	uint32_t item;          /* of the button */
+};
+
+/* How many numbers so many places for choices are. */
+#define KANGIRLO_CHOICE_NUMBERS(places) (2 * (size_t)(places))
+
+/* Places that are enough for the records of any message, and more than there are records, so that choices are not counted first. */
+enum { KANGIRLO_CHOICES_MOST = KANGIRLO_OUTPUT_MOST / KANGIRLO_RECORD_BYTES + 1 };
+
+/* What became of some records. */
+struct kangirlo_picked {
+	uint8_t refusal;
+	size_t count;           /* choices that stand from the list's first place on */
 };
 
 /* ---- The session host's end: libkangirlo.a. */
@@ -370,11 +411,44 @@ static inline struct kangirlo_written kangirlo_panel_write_dismiss_direct(struct
 	return said.written;
 }
 
+/* ---- The label screen's buttons: liblabel.a. A point is in the first shown button of the list that holds it, else in none. The same
+ * button is the same place in the list: a list that is to be another one goes with a label whose `pressed` is all zeros. */
+
+/* Which choices some records are, in their order. A choice is a contact that is pressed (0x19) inside a button, then does nothing but move
+ * (0x1A), and is lifted (0x04 or 0x0C) inside the same button; where it moved between does not matter, and a cancel ends the press. Where
+ * the buttons are and which are shown is looked up at the press and at the lift, each time in the list that this call is lent. The item
+ * is that of the lift. The label is lent in parts, and becomes what the records make of it where it stands. `numbers` is
+ * KANGIRLO_CHOICE_NUMBERS of the places: each takes two, an id and an item. Numbers behind the last choice are not touched.
+ *
+ * Refused with 14, over all records and before 13, where they are not whole and well formed, a head is not followed by its count of
+ * contacts, a cancel or a dismissal stands inside a frame, or a contact's flags are not legal from its state in the label. A label that is
+ * fresh when its receiver is, and is given the records of each of its messages in order, those that it refused by 13 again with more room,
+ * never gives 14, and has the receiver's states. Refused with 13 where there are more choices than places. As many places as records are
+ * enough; with one more the choices are not counted before they are written, which is quicker. */
+struct kangirlo_picked kangirlo_choose_parts(uint8_t states[256], size_t pressed[256], const struct kangirlo_button *buttons,
+                                             size_t how_many, const uint8_t *records, size_t bytes, uint32_t *choices,
+                                             size_t numbers);
+
+/* .. and for a program that keeps a label, and lists choices by their places: its own fields are lent. */
+static inline struct kangirlo_picked kangirlo_choose(struct kangirlo_label *label, const struct kangirlo_button *buttons, size_t how_many,
+                                                     const uint8_t *records, size_t bytes, struct kangirlo_choice *choices,
+                                                     size_t places)
+{
+	return kangirlo_choose_parts(label->states, label->pressed, buttons, how_many, records, bytes, (uint32_t *)choices,
+	                             KANGIRLO_CHOICE_NUMBERS(places));
+}
+
+/* The place of the button that a point is in; how_many where it is in none. */
+size_t kangirlo_button_at(const struct kangirlo_button *buttons, size_t how_many, int32_t x, int32_t y);
+
+/* Shows the button of a place (any number but 0) or hides it (0), and answers whether there is one. Nothing but its mark is changed. */
+bool kangirlo_set_shown(struct kangirlo_button *buttons, size_t how_many, size_t place, uint8_t shown);
+
 #ifdef __cplusplus
 }
 #endif
 
-/* The layout that both archives were compiled for: x86-64 Linux. */
+/* The layout that the archives were compiled for: x86-64 Linux. */
 #ifdef __cplusplus
 #define KANGIRLO_ASSERT(test) static_assert(test, #test)
 #define KANGIRLO_ALIGN(type) alignof(type)
@@ -411,5 +485,14 @@ KANGIRLO_ASSERT(sizeof(struct kangirlo_written) == 16 && KANGIRLO_ALIGN(struct k
 KANGIRLO_ASSERT(sizeof(struct kangirlo_record) == 40 && KANGIRLO_ALIGN(struct kangirlo_record) == 8);
 KANGIRLO_ASSERT(offsetof(struct kangirlo_record, count) == 2 && offsetof(struct kangirlo_record, flags) == 4);
 KANGIRLO_ASSERT(offsetof(struct kangirlo_record, orientation) == 8 && offsetof(struct kangirlo_record, x) == 20);
+KANGIRLO_ASSERT(sizeof(struct kangirlo_button) == 24 && KANGIRLO_ALIGN(struct kangirlo_button) == 4);
+KANGIRLO_ASSERT(offsetof(struct kangirlo_button, left) == 4 && offsetof(struct kangirlo_button, top) == 8);
+KANGIRLO_ASSERT(offsetof(struct kangirlo_button, bottom) == 16 && offsetof(struct kangirlo_button, shown) == 20);
+KANGIRLO_ASSERT(sizeof(struct kangirlo_label) == 2304 && KANGIRLO_ALIGN(struct kangirlo_label) == 8);
+KANGIRLO_ASSERT(offsetof(struct kangirlo_label, pressed) == 256);
+KANGIRLO_ASSERT(sizeof(struct kangirlo_picked) == 16 && KANGIRLO_ALIGN(struct kangirlo_picked) == 8);
+KANGIRLO_ASSERT(offsetof(struct kangirlo_picked, count) == 8);
+KANGIRLO_ASSERT(sizeof(struct kangirlo_choice) == KANGIRLO_CHOICE_NUMBERS(1) * sizeof(uint32_t));
+KANGIRLO_ASSERT(offsetof(struct kangirlo_choice, item) == sizeof(uint32_t));
 
 #endif

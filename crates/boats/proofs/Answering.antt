@@ -1,29 +1,26 @@
 -- The choices that calls answer are those of their events: what a label keeps of each contact is what the contact's own records say.
 -- Assumes nothing.
-use Prim.Native.Nat.{ℕ, zero, suc, _+_, _/_, _<_}
+use Prim.Native.Nat.{ℕ, _+_, _<_}
 use mathlib.Core.Path.{_≡_, refl, sym, ap, subst, _∙_}
 use mathlib.Core.Bool.{Bool, true, false, cond}
 use mathlib.Core.List.{List, [], _∷_, _++_, append-nil}
 use native.Mathlib.Omega.{arith}
 use borrow.Author.Tests.{leb-true, leb-false, eqb-true, eqb-false}
 use lib.Dec.{eqb, leb}
-use lib.ListN.{length, getD, set, take, drop, replicate, length-set, length-replicate, getD-replicate, List·getD-eq-default}
+use lib.ListN.{length, getD, set, replicate, length-set, length-replicate, getD-replicate, List·getD-eq-default}
 use lib.Seq.{getD-set-same, getD-set-other}
-use Rattle.house.specs.Fields.{recordBytes}
-use Rattle.paper.specs.Refusals.{badRecord}
-use Rattle.house.specs.Layout.{head, headIn, contactOf, kindOf, recordOf}
-use Rattle.house.specs.Records as house
 use Rattle.house.specs.declared.Contact.{Contact}
 use Rattle.house.specs.declared.Record.{Record}
 use Rattle.house.specs.declared.Record.the-variants as Record
-use Rattle.house.proofs.Round.{contact-fits}
 use Rattle.house.proofs.WellFormed.{never}
+use Rattle.machine.specs.Table.{contacts}
 use Rattle.stream.specs.Asked.{All}
 use Rattle.presses.specs.Buttons.{nowhere, hitIn}
-use Rattle.presses.specs.Choosing.{Choice, contacts, fresh, recordsIn, pressedAfter, isChoice, pressedIn, recordKept, recordChosen, keptOf, chosenIn}
+use Rattle.presses.specs.Choosing.{Choice, freshLabel, pressedAfter, isChoice, pressedIn, recordKept, recordChosen, keptOf, chosenIn}
 use Rattle.presses.specs.declared.Button.{Button}
 use Rattle.presses.specs.declared.Label.{Label}
-use Rattle.boats.specs.Meant.{Event, flagsOf, eventsIn, ofContact, Answered, chose, passes}
+use Rattle.boats.specs.Meant.{Event, flagsOf, eventsIn, ofContact, Answered, chose, no-choice}
+use Rattle.boats.proofs.Ids.{Small}
 use Rattle.boats.proofs.Among.{of-contact-append}
 use Rattle.boats.proofs.Inside.{hitAt}
 use Rattle.boats.proofs.Held.{held, held-append, choice, chosen-meant, meant-chosen}
@@ -66,44 +63,20 @@ none-at : (id : ℕ) (past : Bool) → leb contacts id ≡ past → getD unpress
 none-at id true e = List·getD-eq-default unpressed 0 {n = id} (rw (length-replicate {A = ℕ} contacts 0) (leb-true _ _ e))
 none-at id false e = getD-replicate contacts id 0 0 (leb-false _ _ e)
 
-pub keeps-fresh : Keeps [] (fresh .pressed)
-unfolding fresh ofContact held
+pub keeps-fresh : Keeps [] (freshLabel .pressed)
+unfolding freshLabel ofContact held
 keeps-fresh = record { long = length-replicate {A = ℕ} contacts 0; each = λ id. none-at id (leb contacts id) refl }
 
 -- ---- records
-
--- an id is a byte
-abbrev OfByte : Record → Type 0
-OfByte (Record.Head h) = Unit
-OfByte (Record.Contact kind c) = c .id < contacts
-OfByte (Record.Refused e) = Unit
-
-of-byte : (l : List ℕ) → OfByte (recordOf l)
-unfolding recordOf
-of-byte l = go (leb recordBytes (length l)) (eqb (kindOf (take recordBytes l)) head)
-  where
-    go : (whole heads : Bool) → let s = take recordBytes l in OfByte (cond whole (cond heads (Record.Head (headIn s)) (Record.Contact (kindOf s) (contactOf s))) (Record.Refused badRecord))
-    go true true = tt
-    go true false = contact-fits (take recordBytes l) .id
-    go false heads = tt
-
-of-bytes : (n : ℕ) (l : List ℕ) → All OfByte (house.recordsFrom recordOf n l)
-unfolding house.recordsFrom
-of-bytes zero l = tt
-of-bytes (suc n) l = (of-byte l, of-bytes n (drop recordBytes l))
-
-pub records-of-bytes : (l : List ℕ) → All OfByte (recordsIn l)
-unfolding house.recordsIn
-records-of-bytes l = of-bytes ((length l + 20) / recordBytes) l
 
 module _ (bs : List Button) where
   answered-contact : (past : List Event) (c : Contact) (es : List Event) (cs ds : List Choice) (chosen : Bool) → let e : Event = record { buttons = bs; contact = c } in
       choice past e ≡ chosen → Answered (past ++ (e ∷ [])) es (cs ++ ds) → Answered past (e ∷ es) (cond chosen (record { id = c .id; item = hitAt e .item } ∷ []) [] ++ cs ++ ds)
   answered-contact past c es cs ds true h a = chose past _ _ es (cs ++ ds) (chosen-meant past _ h) a
-  answered-contact past c es cs ds false h a = passes past _ es (cs ++ ds) (λ item m. never (meant-chosen past _ item m .0) h) a
+  answered-contact past c es cs ds false h a = no-choice past _ es (cs ++ ds) (λ item m. never (meant-chosen past _ item m .0) h) a
 
   -- and whatever comes after them
-  pub answered-records : (rs : List Record) → All OfByte rs → (past : List Event) (l : Label) → Keeps past (l .pressed) → (es : List Event) (cs : List Choice)
+  pub answered-records : (rs : List Record) → All Small rs → (past : List Event) (l : Label) → Keeps past (l .pressed) → (es : List Event) (cs : List Choice)
       → ((more : List Event) → Keeps more (keptOf (hitIn bs) l rs .pressed) → Answered more es cs) → Answered past (eventsIn bs rs ++ es) (chosenIn (hitIn bs) l rs ++ cs)
   unfolding eventsIn chosenIn keptOf recordChosen pressedIn
   answered-records [] b past l k es cs next = next past k

@@ -24,9 +24,10 @@ use Rattle.presses.specs.declared.Button.{Button}
 use Rattle.presses.specs.declared.Hit.{Hit}
 use Rattle.presses.specs.declared.Label.{Label}
 use Rattle.presses.specs.declared.Chosen.{Chosen}
-use Rattle.boats.specs.Cutting.{BetweenFrames, SameInTwo, CutsInTwo}
+use Rattle.boats.specs.Cutting.{BetweenFrames, AnsweredInTwo, CutsInTwo}
 use Rattle.boats.proofs.Taking.{Takes, takes, refuses}
-use Rattle.boats.proofs.Parts.{record-alone, well-alone, records-append, frames-append, choices-append, choices-long, kept-append, chosen-append, table-append}
+use Rattle.presses.proofs.Putting.{numbers-long}
+use Rattle.boats.proofs.Parts.{record-alone, well-alone, records-append, frames-append, choices-append, kept-append, chosen-append, table-append}
 
 -- ---- which calls are accepted
 
@@ -106,7 +107,7 @@ module _ (bs : List Button) (l : Label) (front back : List ℕ) (x y z : Chosen)
   firstly = takes (hitIn bs) l front y before ys former first-none
 
   first-long : 2 * y .count ≡ length (numbersOf cs)
-  first-long = omega (arith, firstly .count, choices-long cs)
+  first-long = omega (arith, firstly .count, numbers-long cs)
 
   room-left : length (numbersOf ds) ≤ length (drop (2 * y .count) ys)
   room-left =
@@ -134,7 +135,7 @@ module _ (bs : List Button) (l : Label) (front back : List ℕ) (x y z : Chosen)
       rw (firstly .list) (rw zero-add at (laid-next before (numbersOf cs) (numbersOf ds) 0 (2 * y .count) (sym first-long) (omega (arith, room, first-long)))) in
       ap (λ (s : List ℕ). take (2 * y .count) ys ++ s) (secondly .list) ∙ (two ∙ (ap (laid before) (sym numbers-both) ∙ sym (wholly .list)))
 
-  same-in-two : SameInTwo x y z xs ys zs
+  same-in-two : AnsweredInTwo x y z xs ys zs
   same-in-two =
       record {
         first = first-none;

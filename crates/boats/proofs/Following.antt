@@ -1,13 +1,13 @@
 -- Records of whole frames that lead each contact along a legal path are taken, and the states that a label keeps of them are those where the paths end.
 -- Assumes nothing.
-use Prim.Native.Nat.{ℕ, zero, suc, _*_, _-_, _<_}
+use Prim.Native.Nat.{ℕ, zero, suc, _*_, _-_, _≤_, _<_}
 use mathlib.Core.Path.{_≡_, refl, sym, ap, subst, _∙_}
 use mathlib.Core.Bool.{Bool, true, false, cond}
-use mathlib.Core.List.{List, [], _∷_, _++_, append-assoc}
+use mathlib.Core.List.{List, [], _∷_, _++_}
 use native.Mathlib.Omega.{arith}
-use borrow.Author.Tests.{eqb-true, eqb-false, eq-eqb, ne-eqb, le-leb}
-use lib.Dec.{eqb, leb, lit<}
-use lib.ListN.{length, getD, set, take, drop, length-append, length-set}
+use borrow.Author.Tests.{eqb-true, eqb-false, eq-eqb, ne-eqb}
+use lib.Dec.{eqb, lit<}
+use lib.ListN.{length, getD, set, take, length-append, length-set}
 use lib.Seq.{take-all, getD-set-same, getD-set-other}
 use Rattle.states.specs.Table.{out, illegal, next}
 use Rattle.house.specs.Fields.{recordBytes}
@@ -19,20 +19,21 @@ use Rattle.house.specs.declared.Point.{Point}
 use Rattle.house.specs.declared.Contact.{Contact}
 use Rattle.house.specs.declared.Record.{Record}
 use Rattle.house.specs.declared.Record.the-variants as Record
-use Rattle.paper.specs.Refusals.{badRecord}
-use Rattle.house.proofs.Front.{record-head, record-contact, front-is, front-long}
+use Rattle.house.proofs.Front.{record-head, record-contact}
 use Rattle.house.proofs.Records.{records-one}
-use Rattle.house.proofs.Round.{contact-fits}
 use Rattle.house.proofs.WellFormed.{never}
 use Rattle.framing.specs.Whole.{Formed, Framed, ends, head, contact, cancel, dismissal}
 use Rattle.machine.specs.Conforms.{placeIn}
+use Rattle.machine.specs.Table.{contacts}
 use Rattle.stream.specs.Asked.{All}
 use Rattle.stream.specs.Path.{Path, at, broken, andOn, mayStep, stepped, pathStep}
 use Rattle.stream.specs.Path as paths
 use Rattle.receiver.specs.History.{seenIn, path}
-use Rattle.presses.specs.Choosing.{contacts, recordsIn, allWell, mayStand, dueAfter, inFrames, stateAfter, statesAfter, byTable, recordKept, pointOf, keptOf}
+use Rattle.presses.specs.Choosing.{recordsIn, allWell, mayStand, dueAfter, inFrames, stateAfter, statesAfter, byTable, recordKept, pointOf, keptOf}
 use Rattle.presses.specs.declared.Label.{Label}
 use Rattle.presses.specs.declared.Hit.{Hit}
+use Rattle.boats.proofs.Ids.{Small}
+use Rattle.boats.proofs.Parts.{record-alone, well-alone}
 
 -- ---- whole frames
 
@@ -40,38 +41,20 @@ use Rattle.presses.specs.declared.Hit.{Hit}
 pub record Sorted (n : ℕ) (l : List ℕ) : Type 0 where
   pub well : allWell l ≡ true
   pub frames : inFrames n (recordsIn l) ≡ true
-  pub many : recordBytes * length (recordsIn l) ≡ length l
-  -- whatever follows them
-  pub behind : (rest : List ℕ) → recordsIn (l ++ rest) ≡ recordsIn l ++ recordsIn rest
+  pub many : length l ≡ recordBytes * length (recordsIn l)
 
 whole-front : (s : List ℕ) → length s ≡ recordBytes → take recordBytes s ≡ s
 whole-front s e = take-all recordBytes s (omega (arith, e))
 
--- a whole record is read whatever follows it
-module _ (s t : List ℕ) (e : length s ≡ recordBytes) where
-  same-record : recordOf (s ++ t) ≡ recordOf s
-  unfolding recordOf
-  same-record = rw (le-leb _ _ (front-long s t e), front-is s t e, whole-front s e, le-leb recordBytes (length s) (omega (arith, e)))
-
-  same-well : wellFormed (s ++ t) ≡ wellFormed s
-  unfolding wellFormed
-  same-well = rw (le-leb _ _ (front-long s t e), front-is s t e, whole-front s e, le-leb recordBytes (length s) (omega (arith, e)))
-
-  record-before : recordsIn (s ++ t) ≡ recordOf s ∷ recordsIn t
-  record-before = records-one recordOf s t e ∙ ap (λ (r : Record). r ∷ recordsIn t) same-record
-
 sorted-before : (n k : ℕ) (s t : List ℕ) (r : Record) → Formed k s → recordOf s ≡ r → mayStand n r ≡ true → Sorted (dueAfter n r) t → Sorted n (s ++ t)
 unfolding all inFrames
 sorted-before n k s t r f e m h =
-    let z : recordsIn (s ++ t) ≡ r ∷ recordsIn t = record-before s t (f .long) ∙ ap (λ (x : Record). x ∷ recordsIn t) e in
+    let long : recordBytes ≤ length s = omega (arith, f .long) in
+    let z : recordsIn (s ++ t) ≡ r ∷ recordsIn t = records-one recordOf s t (f .long) ∙ ap (λ (x : Record). x ∷ recordsIn t) (record-alone s t long ∙ e) in
     record {
-      well = rw (records-one wellFormed s t (f .long), same-well s t (f .long), f .well) (h .well);
+      well = rw (records-one wellFormed s t (f .long), well-alone s t long, f .well) (h .well);
       frames = rw (z, m) (h .frames);
       many = rw (z, length-append s t) (omega (arith, h .many, f .long));
-      behind = λ rest.
-          ap recordsIn (append-assoc s t rest)
-          ∙ (record-before s (t ++ rest) (f .long)
-          ∙ (ap (λ (l : List Record). recordOf s ∷ l) (h .behind rest) ∙ sym (ap (λ (l : List Record). l ++ recordsIn rest) (record-before s t (f .long)))));
     }
 
 read-head : (s : List ℕ) → Formed layout.head s → recordOf s ≡ Record.Head (headIn s)
@@ -87,38 +70,13 @@ read-contact k s f =
 
 pub sorted : (n : ℕ) (l : List ℕ) → Framed n l → Sorted n l
 unfolding all inFrames house.recordsIn house.recordsFrom
-sorted n l ends = record { well = refl; frames = refl; many = refl; behind = λ rest. refl }
+sorted n l ends = record { well = refl; frames = refl; many = refl }
 sorted n l (head s t f k) = sorted-before zero layout.head s t (Record.Head (headIn s)) f (read-head s f) refl (sorted (headIn s .count) t k)
 sorted n l (contact m s t f k) =
     let e : m ≡ suc m - 1 = omega arith in
     sorted-before (suc m) touched s t (Record.Contact touched (contactOf s)) f (read-contact 0 s f) (rw (ne-eqb (suc m) 0 (λ z. omega (arith, z)))) (subst (λ (i : ℕ). Sorted i t) e (sorted m t k))
 sorted n l (cancel s t f k) = sorted-before zero cancelled s t (Record.Contact cancelled (contactOf s)) f (read-contact 1 s f) refl (sorted zero t k)
 sorted n l (dismissal s t f k) = sorted-before zero dismissed s t (Record.Contact dismissed (contactOf s)) f (read-contact 2 s f) refl (sorted zero t k)
-
--- ---- an id is a byte
-
-abbrev pub Small : Record → Type 0
-Small (Record.Head h) = Unit
-Small (Record.Contact kind c) = c .id < contacts
-Small (Record.Refused e) = Unit
-
-small : (l : List ℕ) → Small (recordOf l)
-unfolding recordOf
-small l = go (leb recordBytes (length l)) (eqb (kindOf (take recordBytes l)) layout.head)
-  where
-    go : (a b : Bool) → let s : List ℕ = take recordBytes l in Small (cond a (cond b (Record.Head (headIn s)) (Record.Contact (kindOf s) (contactOf s))) (Record.Refused badRecord))
-    go true true = tt
-    go true false = contact-fits (take recordBytes l) .id
-    go false b = tt
-
-small-from : (n : ℕ) (l : List ℕ) → All Small (house.recordsFrom recordOf n l)
-unfolding house.recordsFrom
-small-from zero l = tt
-small-from (suc n) l = (small l, small-from n (drop recordBytes l))
-
-pub all-small : (l : List ℕ) → All Small (recordsIn l)
-unfolding house.recordsIn
-all-small l = small-from _ l
 
 -- ---- paths
 

@@ -9,7 +9,7 @@ use borrow.Author.Tests.{lt-ltb, ltb-true}
 use lib.Dec.{ltb}
 use lib.ListN.{length}
 use Rattle.house.specs.declared.Point.{Point}
-use Rattle.presses.specs.Buttons.{holds, buttonAt, placeOf, nowhere, hitIn}
+use Rattle.presses.specs.Buttons.{holds, buttonAt, firstHolding, nowhere, hitIn}
 use Rattle.presses.specs.declared.Button.{Button}
 use Rattle.presses.specs.declared.Hit.{Hit}
 use Rattle.boats.specs.Meant.{Event, InButton}
@@ -27,8 +27,8 @@ record First (bs : List Button) (p : Point) (k : ℕ) : Type 0 where
   first : (before : ℕ) → before < k → holds (buttonAt bs before) p ≡ false
 
 -- its place is what the search ends at
-place-is : (bs : List Button) (p : Point) (k : ℕ) → First bs p k → placeOf bs p ≡ k
-unfolding placeOf
+place-is : (bs : List Button) (p : Point) (k : ℕ) → First bs p k → firstHolding bs p ≡ k
+unfolding firstHolding
 place-is [] p k f = absurd (omega (arith, f .there))
 place-is (b ∷ bs) p zero f = rw (f .held)
 place-is (b ∷ bs) p (suc k) f =
@@ -40,15 +40,15 @@ first-behind : (b : Button) (bs : List Button) (p : Point) (k : ℕ) → holds b
 first-behind b bs p k e f zero l = e
 first-behind b bs p k e f (suc j) l = f .first j (omega (arith, l))
 
-first-by : (b : Button) (bs : List Button) (p : Point) (here : Bool) → holds b p ≡ here → (placeOf bs p < length bs → First bs p (placeOf bs p)) → cond here 0 (suc (placeOf bs p)) < suc (length bs)
-    → First (b ∷ bs) p (cond here 0 (suc (placeOf bs p)))
+first-by : (b : Button) (bs : List Button) (p : Point) (here : Bool) → holds b p ≡ here → (firstHolding bs p < length bs → First bs p (firstHolding bs p)) → cond here 0 (suc (firstHolding bs p)) < suc (length bs)
+    → First (b ∷ bs) p (cond here 0 (suc (firstHolding bs p)))
 first-by b bs p true e more l = record { there = l; held = e; first = λ j m. absurd (omega (arith, m)) }
 first-by b bs p false e more l =
     let f = more (omega (arith, l)) in
-    record { there = l; held = f .held; first = first-behind b bs p (placeOf bs p) e f }
+    record { there = l; held = f .held; first = first-behind b bs p (firstHolding bs p) e f }
 
-place-first : (bs : List Button) (p : Point) → placeOf bs p < length bs → First bs p (placeOf bs p)
-unfolding placeOf
+place-first : (bs : List Button) (p : Point) → firstHolding bs p < length bs → First bs p (firstHolding bs p)
+unfolding firstHolding
 place-first [] p l = absurd (omega (arith, l))
 place-first (b ∷ bs) p l = first-by b bs p (holds b p) refl (place-first bs p) l
 
@@ -67,12 +67,12 @@ first-in e k i = record { there = i .there; held = rw (i .shown) (i .inside); fi
 -- a number is the button's at that place
 pub number-in : (e : Event) (k : ℕ) → hitAt e .number ≡ suc k → InButton e k × (hitAt e .item ≡ buttonAt (e .buttons) k .item)
 unfolding hitIn
-number-in e k = go (ltb (placeOf (e .buttons) (e .contact .place)) (length (e .buttons))) refl
+number-in e k = go (ltb (firstHolding (e .buttons) (e .contact .place)) (length (e .buttons))) refl
   where
-    go : (there : Bool) → let q = placeOf (e .buttons) (e .contact .place) in let h = cond there (record { number = q + 1; item = buttonAt (e .buttons) q .item }) nowhere in
+    go : (there : Bool) → let q = firstHolding (e .buttons) (e .contact .place) in let h = cond there (record { number = q + 1; item = buttonAt (e .buttons) q .item }) nowhere in
         ltb q (length (e .buttons)) ≡ there → h .number ≡ suc k → InButton e k × (h .item ≡ buttonAt (e .buttons) k .item)
     go true t n =
-        let q : placeOf (e .buttons) (e .contact .place) ≡ k = omega (arith, n) in
+        let q : firstHolding (e .buttons) (e .contact .place) ≡ k = omega (arith, n) in
         let f = place-first (e .buttons) (e .contact .place) (ltb-true _ _ t) in
         (in-first e k (subst (First (e .buttons) (e .contact .place)) q f), ap (λ j. buttonAt (e .buttons) j .item) q)
     go false t n = absurd (omega (arith, n))

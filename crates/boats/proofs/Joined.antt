@@ -6,12 +6,12 @@ use mathlib.Core.Bool.{Bool, true, false, cond}
 use mathlib.Core.List.{List, [], _∷_, _++_, map, append-assoc, append-nil}
 use native.Mathlib.Omega.{arith}
 use borrow.Author.Tests.{eqb-true, eqb-false, leb-false}
-use lib.Dec.{eqb, leb, lit≤}
-use lib.ListN.{length, getD, drop, length-append, length-replicate, getD-replicate}
+use lib.Dec.{eqb, leb}
+use lib.ListN.{length, getD, drop, length-replicate, getD-replicate}
 use Rattle.paper.specs.Refusals.{none, noRoom, badRecord}
 use Rattle.digits.specs.Digits.{Bytes}
 use Rattle.states.specs.Table.{out}
-use Rattle.house.specs.declared.Point.{Point}
+use Rattle.house.specs.Layout.{recordOf}
 use Rattle.house.specs.declared.Record.{Record}
 use Rattle.house.proofs.WellFormed.{all-none, all-join}
 use Rattle.framing.specs.Whole.{FramesWhole, ends}
@@ -24,18 +24,18 @@ use Rattle.receiver.specs.Receive.{fresh}
 use Rattle.receiver.specs.History.{tableOf, path}
 use Rattle.receiver.specs.declared.Receiver.{Receiver}
 use Rattle.presses.specs.Buttons.{hitIn}
-use Rattle.presses.specs.Choosing.{Choice, recordsIn, isTakenFrom, isTaken, recordChosen, recordKept, pointOf, isChoice, keptOf, chosenIn, numbersOf, refusalOf, answered, Chooses}
-use Rattle.presses.specs.Choosing as choosing
+use Rattle.presses.specs.Choosing.{Choice, freshLabel, recordsIn, isTakenFrom, isTaken, keptOf, chosenIn, numbersOf, refusalOf, Chooses}
 use Rattle.presses.specs.declared.Label.{Label}
-use Rattle.presses.specs.declared.Hit.{Hit}
-use Rattle.presses.specs.declared.Chosen.{Chosen}
 use Rattle.presses.proofs.Putting.{numbers-long}
-use Rattle.presses.proofs.Concluding.{one-choice}
+use Rattle.presses.proofs.Concluding.{chosen-few}
 use Rattle.demands.specs.Histories.{Call as Received, Calls as Receipts, History, last, recordsLeft, allLeft}
 use Rattle.demands.proofs.Demands.{demand-3, whole-frames}
-use Rattle.boats.specs.Calls.{Call, Calls}
+use Rattle.boats.specs.Calls.{LabelCall, LabelCalls, lastLabel}
 use Rattle.boats.specs.Joined.{heard, Fed, NeverAstray}
-use Rattle.boats.proofs.Following.{Sorted, sorted, all-small, path-on, Followed, followed}
+use Rattle.boats.proofs.Ids.{all-small}
+use Rattle.boats.proofs.Parts.{record-alone, records-append}
+use Rattle.boats.proofs.Taking.{takes, leaves, refuses}
+use Rattle.boats.proofs.Following.{Sorted, sorted, path-on, Followed, followed}
 
 -- ---- a history and one call more
 
@@ -67,19 +67,12 @@ call-path : (past : List Received) (c : Received) → History past → FramesWho
 call-path past c k w g id i =
     let t = tableOf (last fresh past) in
     sym (path-on id (recordsIn (allLeft past)) (recordsIn (recordsLeft c)) out origin (stateAt t id) (placeAt t id) (demand-3 .legal past k id i))
-    ∙ (ap (λ (rs : List Record). path id rs out origin) (sym (ap recordsIn (left-then past c) ∙ sorted zero (allLeft past) w .behind (recordsLeft c)))
+    ∙ (ap (λ (rs : List Record). path id rs out origin) (sym (ap recordsIn (left-then past c) ∙ records-append recordOf record-alone (recordsLeft c) (length (recordsIn (allLeft past))) (allLeft past) (sorted zero (allLeft past) w .many)))
     ∙ (demand-3 .legal (grown past c) g id i ∙ ap (λ (r : Receiver). at (stateAt (tableOf r) id) (placeAt (tableOf r) id)) (last-then fresh past c)))
 
 -- ---- one call of a label
 
-refusal-of : (e : ℕ) (l m : Label) (cs : List Choice) → answered e l m cs .refusal ≡ e
-refusal-of e l m cs = go (eqb e none) refl
-  where
-    go : (b : Bool) → eqb e none ≡ b → let x : Chosen = cond b (record { label = m; refusal = none; count = length cs }) (record { label = l; refusal = e; count = 0 }) in x .refusal ≡ e
-    go true k = sym (eqb-true e none k)
-    go false k = refl
-
-module _ (l : Label) (c : Call) (h : Chooses (hitIn (c .buttons)) l (c .records) (c .chosen) (c .before) (c .after)) where
+module _ (l : Label) (c : LabelCall) (h : Chooses (hitIn (c .buttons)) l (c .records) (c .chosen) (c .before) (c .after)) where
   abbrev kept : Label
   kept = keptOf (hitIn (c .buttons)) l (recordsIn (c .records))
 
@@ -89,17 +82,15 @@ module _ (l : Label) (c : Call) (h : Chooses (hitIn (c .buttons)) l (c .records)
   abbrev fits : Bool
   fits = leb (length (numbersOf chosen)) (length (c .before))
 
-  abbrev refusal : ℕ
-  refusal = refusalOf (hitIn (c .buttons)) l (c .records) (length (c .before))
-
-  refused-by : c .chosen .refusal ≡ refusal
-  refused-by = ap (λ (x : Chosen). x .refusal) (h .answer) ∙ refusal-of refusal l kept chosen
+  refused-by : c .chosen .refusal ≡ refusalOf (hitIn (c .buttons)) l (c .records) (length (c .before))
+  refused-by = refuses (hitIn (c .buttons)) l (c .records) (c .chosen) (c .before) (c .after) h
 
   label-by : c .chosen .refusal ≡ none → c .chosen .label ≡ kept
-  label-by e = ap (λ (x : Chosen). x .label) (h .answer) ∙ ap (λ (n : ℕ). answered n l kept chosen .label) (sym refused-by ∙ e)
+  label-by e = takes (hitIn (c .buttons)) l (c .records) (c .chosen) (c .before) (c .after) h e .label
 
   unheard-by : c .chosen .refusal ≡ noRoom → c .chosen .label ≡ l
-  unheard-by e = ap (λ (x : Chosen). x .label) (h .answer) ∙ ap (λ (n : ℕ). answered n l kept chosen .label) (sym refused-by ∙ e)
+  unheard-by e =
+      leaves (hitIn (c .buttons)) l (c .records) (c .chosen) (c .before) (c .after) h (ap (λ (n : ℕ). eqb n none) e) .label
 
   -- records that are taken, with room
   taken-by : isTaken (l .states) (c .records) ≡ true → (c .chosen .refusal ≡ noRoom → ⊥) → c .chosen .refusal ≡ none
@@ -122,16 +113,8 @@ module _ (l : Label) (c : Call) (h : Chooses (hitIn (c .buttons)) l (c .records)
 
 -- ---- room: a choice for each record at the most
 
-chosen-few : (hit : Point → Hit) (l : Label) (rs : List Record) → length (chosenIn hit l rs) ≤ length rs
-unfolding chosenIn
-chosen-few hit l [] = lit≤ tt
-chosen-few hit l (r ∷ rs) =
-    let h : Hit = hit (pointOf r) in
-    rw (length-append (recordChosen h (l .pressed) r) (chosenIn hit (recordKept h l r) rs))
-    (omega (arith, one-choice h (l .pressed) r, chosen-few hit (recordKept h l r) rs))
-
-room-enough : (l : Label) (c : Call) → Calls l (c ∷ []) → 2 * length (recordsIn (c .records)) ≤ length (c .before) → c .chosen .refusal ≡ noRoom → ⊥
-unfolding Calls
+room-enough : (l : Label) (c : LabelCall) → LabelCalls l (c ∷ []) → 2 * length (recordsIn (c .records)) ≤ length (c .before) → c .chosen .refusal ≡ noRoom → ⊥
+unfolding LabelCalls
 room-enough l c k h e =
     omega (arith, crowded-by l c (k .0) e, numbers-long (chosen l c (k .0)), chosen-few (hitIn (c .buttons)) l (recordsIn (c .records)), h)
 
@@ -145,7 +128,7 @@ record Following (past : List Received) (l : Label) : Type 0 where
 
 -- one message more, and its records given to the label
 module _ (past : List Received) (l : Label) (f : Following past l) (d : Received) (k : Receipts (last fresh past) (d ∷ [])) (b : Bytes (d .message))
-    (c : Call) (a : Chooses (hitIn (c .buttons)) l (c .records) (c .chosen) (c .before) (c .after)) (e : c .records ≡ recordsLeft d) (r : c .chosen .refusal ≡ noRoom → ⊥) where
+    (c : LabelCall) (a : Chooses (hitIn (c .buttons)) l (c .records) (c .chosen) (c .before) (c .after)) (e : c .records ≡ recordsLeft d) (r : c .chosen .refusal ≡ noRoom → ⊥) where
   history-on : History (grown past d)
   history-on =
       record { calls = calls-then fresh past d (f .history .calls) k; bytes = bytes-then past d (f .history .bytes) b }
@@ -189,21 +172,34 @@ module _ (past : List Received) (l : Label) (f : Following past l) (d : Received
 apart : {n : ℕ} (a b : ℕ) → (a ≡ b → ⊥) → n ≡ a → n ≡ b → ⊥
 apart a b k e f = k (sym e ∙ f)
 
--- what is promised of a label that followed a receiver up to here
-abbrev Promised : List Call → Type 0
+-- what is promised of a label that followed a receiver up to here: of calls, and of the messages whose records they are given
+record Keeps (past : List Received) (l : Label) (h : List Received) (cs : List LabelCall) : Type 0 where
+  taken : All (λ c. c .chosen .refusal ≡ badRecord → ⊥) cs
+  follows : (id : ℕ) → id < contacts → getD (lastLabel l cs .states) id out ≡ stateAt (tableOf (last (last fresh past) h)) id
+
+abbrev Promised : List LabelCall → Type 0
 Promised cs = (past : List Received) (l : Label) → Following past l → (h : List Received) → Receipts (last fresh past) h → All (λ d. Bytes (d .message)) h
-    → Calls l cs → heard cs ≡ map recordsLeft h → All (λ c. c .chosen .refusal ≡ badRecord → ⊥) cs
+    → LabelCalls l cs → heard cs ≡ map recordsLeft h → Keeps past l h cs
+
+-- no call more: there is no message more
+fed-none : Promised []
+unfolding heard last lastLabel
+fed-none past l f [] k b a e = record { taken = tt; follows = f .states }
+fed-none past l f (d ∷ h) k b a e =
+    let z : 0 ≡ suc (length (map recordsLeft h)) = ap length e in
+    absurd (omega (arith, z))
 
 -- one call more: it lacked room, or it was given the next message's records
-fed-on : (c : Call) (cs : List Call) → Promised cs → Promised (c ∷ cs)
-unfolding Receipts Calls heard
+fed-on : (c : LabelCall) (cs : List LabelCall) → Promised cs → Promised (c ∷ cs)
+unfolding Receipts LabelCalls heard last lastLabel
 fed-on c cs rest past l f h k b a e = go (eqb (c .chosen .refusal) noRoom) refl h k b e
   where
     go : (lacks : Bool) → eqb (c .chosen .refusal) noRoom ≡ lacks → (h : List Received) → Receipts (last fresh past) h → All (λ d. Bytes (d .message)) h
-        → cond lacks (heard cs) (c .records ∷ heard cs) ≡ map recordsLeft h → All (λ (x : Call). x .chosen .refusal ≡ badRecord → ⊥) (c ∷ cs)
+        → cond lacks (heard cs) (c .records ∷ heard cs) ≡ map recordsLeft h → Keeps past l h (c ∷ cs)
     go true x h k b e =
         let n : c .chosen .refusal ≡ noRoom = eqb-true _ _ x in
-        (apart noRoom badRecord (λ z. omega (arith, z)) n, rest past (c .chosen .label) (subst (Following past) (sym (unheard-by l c (a .0) n)) f) h k b (a .1) e)
+        let m = rest past (c .chosen .label) (subst (Following past) (sym (unheard-by l c (a .0) n)) f) h k b (a .1) e in
+        record { taken = (apart noRoom badRecord (λ z. omega (arith, z)) n, m .taken); follows = m .follows }
     go false x [] k b e =
         let z : suc (length (heard cs)) ≡ 0 = ap length e in
         absurd (omega (arith, z))
@@ -213,19 +209,22 @@ fed-on c cs rest past l f h k b a e = go (eqb (c .chosen .refusal) noRoom) refl 
         let room : c .chosen .refusal ≡ noRoom → ⊥ = eqb-false _ _ x in
         let on = following-on past l f d one (b .0) c (a .0) same room in
         let more = subst (λ (q : Receiver). Receipts q h) (sym (last-then fresh past d)) (k .1) in
-        let taken = accepted past l f d one (b .0) c (a .0) same room in
-        (apart none badRecord (λ z. omega (arith, z)) taken, rest (grown past d) (c .chosen .label) on h more (b .1) (a .1) (ap (λ (y : List (List ℕ)). drop 1 y) e))
+        let m = rest (grown past d) (c .chosen .label) on h more (b .1) (a .1) (ap (λ (y : List (List ℕ)). drop 1 y) e) in
+        record {
+          taken = (apart none badRecord (λ z. omega (arith, z)) (accepted past l f d one (b .0) c (a .0) same room), m .taken);
+          follows = λ id i. m .follows id i ∙ ap (λ (q : Receiver). stateAt (tableOf (last q h)) id) (last-then fresh past d);
+        }
 
-fed : (cs : List Call) → Promised cs
-fed [] = λ past l f h k b a e. tt
+fed : (cs : List LabelCall) → Promised cs
+fed [] = fed-none
 fed (c ∷ cs) = fed-on c cs (fed cs)
 
 fresh-table : tableOf fresh ≡ resting
 unfolding fresh
 fresh-table = refl
 
-at-first : Following [] choosing.fresh
-unfolding Receipts allLeft last choosing.fresh
+at-first : Following [] freshLabel
+unfolding Receipts allLeft last freshLabel
 at-first =
     record {
       history = record { calls = tt; bytes = tt };
@@ -234,9 +233,10 @@ at-first =
       states = λ id i. getD-replicate contacts id out out i ∙ sym (ap (λ (t : Table). stateAt t id) fresh-table ∙ resting-state id);
     }
 
-fed-all : (h : List Received) → History h → (cs : List Call) → Calls choosing.fresh cs → Fed h cs → All (λ c. c .chosen .refusal ≡ badRecord → ⊥) cs
+fed-all : (h : List Received) → History h → (cs : List LabelCall) → LabelCalls freshLabel cs → Fed h cs → Keeps [] freshLabel h cs
 unfolding last
-fed-all h k cs a e = fed cs [] choosing.fresh at-first h (k .calls) (k .bytes) a e
+fed-all h k cs a e = fed cs [] freshLabel at-first h (k .calls) (k .bytes) a e
 
 pub a-label-fed-by-a-receiver : NeverAstray
-a-label-fed-by-a-receiver = record { taken = fed-all; roomy = room-enough }
+unfolding last
+a-label-fed-by-a-receiver = record { taken = λ h k cs a e. fed-all h k cs a e .taken; follows = λ h k cs a e. fed-all h k cs a e .follows; roomy = room-enough }

@@ -1,4 +1,5 @@
 pub mod Among
+pub mod Ids
 pub mod Inside
 pub mod Held
 pub mod Answering

@@ -67,11 +67,6 @@ unfolding numbersOf
 choices-append [] ds = refl
 choices-append (c ∷ cs) ds = ap (λ (l : List ℕ). c .id ∷ c .item ∷ l) (choices-append cs ds)
 
-pub choices-long : (cs : List Choice) → length (numbersOf cs) ≡ 2 * length cs
-unfolding numbersOf
-choices-long [] = refl
-choices-long (c ∷ cs) = omega (arith, choices-long cs)
-
 module _ (hit : Point → Hit) (qs : List Record) where
   pub kept-append : (l : Label) (rs : List Record) → keptOf hit l (rs ++ qs) ≡ keptOf hit (keptOf hit l rs) qs
   unfolding keptOf

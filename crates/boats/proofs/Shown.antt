@@ -16,7 +16,7 @@ use Rattle.presses.specs.Buttons.{isShown, buttonAt, blank, marked, withShown, 
 use Rattle.presses.specs.Choosing.{recordsIn}
 use Rattle.presses.specs.declared.Button.{Button}
 use Rattle.boats.specs.Meant.{Event, eventsIn, Meant}
-use Rattle.boats.specs.Calls.{Call, eventsOf, ChangesOne, MarkedFrom, as-it-was, then-marked, OnOneList}
+use Rattle.boats.specs.Calls.{LabelCall, eventsOf, ChangesOne, MarkedFrom, as-it-was, then-marked, OnOneList}
 use Rattle.boats.proofs.Among.{all-both, all-at, all-of-contact}
 
 -- ---- one button
@@ -69,7 +69,7 @@ call-events : (bs cs : List Button) (rs : List Record) → items cs ≡ items bs
 call-events bs cs rs s true = record-events bs cs rs s
 call-events bs cs rs s false = tt
 
-calls-events : (bs cs : List Button) → items cs ≡ items bs → (h : List Call) → OnOneList cs h → All (Same bs) (eventsOf h)
+calls-events : (bs cs : List Button) → items cs ≡ items bs → (h : List LabelCall) → OnOneList cs h → All (Same bs) (eventsOf h)
 unfolding OnOneList eventsOf
 calls-events bs cs s [] o = tt
 calls-events bs cs s (c ∷ h) o =
@@ -80,7 +80,7 @@ calls-events bs cs s (c ∷ h) o =
 
 -- ---- A CHOICE'S ITEM
 
-pub shown-at-both : (bs : List Button) (h : List Call) → OnOneList bs h → (past : List Event) (e : Event) (es : List Event) (item : ℕ)
+pub shown-at-both : (bs : List Button) (h : List LabelCall) → OnOneList bs h → (past : List Event) (e : Event) (es : List Event) (item : ℕ)
     → eventsOf h ≡ past ++ (e ∷ es) → (m : Meant past e item)
     → (buttonAt (m .pressing .buttons) (m .place) .item ≡ item) × (isShown (buttonAt (m .pressing .buttons) (m .place)) ≡ true)
 shown-at-both bs h o past e es item c m =

@@ -10,7 +10,7 @@ use lib.ListN.{length}
 use Rattle.paper.specs.Refusals.{none}
 use Rattle.slices.specs.Writing.{laid}
 use Rattle.house.specs.declared.Point.{Point}
-use Rattle.presses.specs.Choosing.{Choice, recordsIn, keptOf, chosenIn, numbersOf, refusalOf, answered, left, Chooses}
+use Rattle.presses.specs.Choosing.{Choice, recordsIn, keptOf, chosenIn, numbersOf, refusalOf, decided, listAfter, Chooses}
 use Rattle.presses.specs.declared.Hit.{Hit}
 use Rattle.presses.specs.declared.Label.{Label}
 use Rattle.presses.specs.declared.Chosen.{Chosen}
@@ -28,7 +28,7 @@ pub record Leaves (l : Label) (x : Chosen) : Type 0 where
 abbrev answeredBy : Bool → ℕ → Label → Label → List Choice → Chosen
 answeredBy accepted e l kept cs = cond accepted (record { label = kept; refusal = none; count = length cs }) (record { label = l; refusal = e; count = 0 })
 
-refusal-answered : (e : ℕ) (l kept : Label) (cs : List Choice) → answered e l kept cs .refusal ≡ e
+refusal-answered : (e : ℕ) (l kept : Label) (cs : List Choice) → decided e l kept cs .refusal ≡ e
 refusal-answered e l kept cs = go (eqb e none) refl
   where
     go : (accepted : Bool) → eqb e none ≡ accepted → answeredBy accepted e l kept cs .refusal ≡ e
@@ -45,11 +45,11 @@ module _ (hit : Point → Hit) (l : Label) (records : List ℕ) (x : Chosen) (be
       let e = sym refuses ∙ a in
       let kept = keptOf hit l (recordsIn records) in
       let cs = chosenIn hit l (recordsIn records) in
-      let y : x ≡ answered none l kept cs = k .answer ∙ ap (λ (n : ℕ). answered n l kept cs) e in
+      let y : x ≡ decided none l kept cs = k .answer ∙ ap (λ (n : ℕ). decided n l kept cs) e in
       record {
         label = ap (λ (z : Chosen). z .label) y;
         count = ap (λ (z : Chosen). z .count) y;
-        list = k .output ∙ ap (λ (n : ℕ). left n before cs) e;
+        list = k .output ∙ ap (λ (n : ℕ). listAfter n before cs) e;
       }
 
   pub leaves : eqb (x .refusal) none ≡ false → Leaves l x

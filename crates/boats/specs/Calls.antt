@@ -7,7 +7,7 @@ use lib.Dec.{eqb}
 use lib.ListN.{length, getD, drop}
 use Rattle.paper.specs.Refusals.{none}
 use Rattle.presses.specs.Buttons.{isShown, buttonAt, marked, hitIn, SetsShown}
-use Rattle.presses.specs.Choosing.{Choice, fresh, recordsIn, move, press, Chooses}
+use Rattle.presses.specs.Choosing.{Choice, freshLabel, recordsIn, move, press, Chooses}
 use Rattle.presses.specs.declared.Button.{Button}
 use Rattle.presses.specs.declared.Label.{Label}
 use Rattle.presses.specs.declared.Chosen.{Chosen}
@@ -17,7 +17,7 @@ use Rattle.boats.specs.Meant.{Event, flagsOf, eventsIn, ofContact, Meant
 -- ---- calls
 
 -- a call: the buttons and the records that it was lent, what it answered, and the list of choices before and after it
-pub record Call : Type 0 where
+pub record LabelCall : Type 0 where
   pub buttons : List Button
   pub records : List ℕ
   pub chosen : Chosen
@@ -25,24 +25,29 @@ pub record Call : Type 0 where
   pub after : List ℕ
 
 -- calls one after the other, the first of them with the label l: the contract allows each
-unfoldable pub Calls : Label → List Call → Type 0
-Calls l [] = Unit
-Calls l (c ∷ cs) = Chooses (hitIn (c .buttons)) l (c .records) (c .chosen) (c .before) (c .after) × Calls (c .chosen .label) cs
+unfoldable pub LabelCalls : Label → List LabelCall → Type 0
+LabelCalls l [] = Unit
+LabelCalls l (c ∷ cs) = Chooses (hitIn (c .buttons)) l (c .records) (c .chosen) (c .before) (c .after) × LabelCalls (c .chosen .label) cs
+
+-- the label that they leave
+unfoldable pub lastLabel : Label → List LabelCall → Label
+lastLabel l [] = l
+lastLabel l (c ∷ cs) = lastLabel (c .chosen .label) cs
 
 -- the choices that a call answered: the first numbers of the list that it left, two for each
 unfoldable pub choicesAt : ℕ → List ℕ → List Choice
 choicesAt zero l = []
 choicesAt (suc n) l = record { id = getD l 0 0; item = getD l 1 0 } ∷ choicesAt n (drop 2 l)
 
-abbrev pub choicesOf : Call → List Choice
+abbrev pub choicesOf : LabelCall → List Choice
 choicesOf c = choicesAt (c .chosen .count) (c .after)
 
-unfoldable pub allChosen : List Call → List Choice
+unfoldable pub allChosen : List LabelCall → List Choice
 allChosen [] = []
 allChosen (c ∷ cs) = choicesOf c ++ allChosen cs
 
 -- "either changes nothing": of a call that is refused no record was taken
-unfoldable pub eventsOf : List Call → List Event
+unfoldable pub eventsOf : List LabelCall → List Event
 eventsOf [] = []
 eventsOf (c ∷ cs) = cond (eqb (c .chosen .refusal) none) (eventsIn (c .buttons) (recordsIn (c .records))) [] ++ eventsOf cs
 
@@ -60,7 +65,7 @@ pub data MarkedFrom : List Button → List Button → Type 0 where
   then-marked : (bs cs ds : List Button) (place shown : ℕ) (there : Bool) → MarkedFrom bs cs → SetsShown cs place shown there ds → MarkedFrom bs ds
 
 -- each call is lent the list as calls of set_shown have left it
-unfoldable pub OnOneList : List Button → List Call → Type 0
+unfoldable pub OnOneList : List Button → List LabelCall → Type 0
 OnOneList bs [] = Unit
 OnOneList bs (c ∷ cs) = MarkedFrom bs (c .buttons) × OnOneList (c .buttons) cs
 
@@ -68,13 +73,13 @@ OnOneList bs (c ∷ cs) = MarkedFrom bs (c .buttons) × OnOneList (c .buttons) c
 
 pub record EveryChoice : Type 0 where
   -- the choices that were answered are exactly document 02's, in record order
-  pub exactly : (h : List Call) → Calls fresh h → Answered [] (eventsOf h) (allChosen h)
+  pub exactly : (h : List LabelCall) → LabelCalls freshLabel h → Answered [] (eventsOf h) (allChosen h)
   -- and there is no other list of choices that is
   pub only : (past es : List Event) (cs ds : List Choice) → Answered past es cs → Answered past es ds → cs ≡ ds
   -- set_shown changes one button
   pub one : (bs : List Button) (place shown : ℕ) (there : Bool) (after : List Button) → SetsShown bs place shown there after → ChangesOne bs place shown after
   -- a choice names an item that was shown at its press and at its lift
-  pub shown : (bs : List Button) (h : List Call) → OnOneList bs h → (past : List Event) (e : Event) (es : List Event) (item : ℕ)
+  pub shown : (bs : List Button) (h : List LabelCall) → OnOneList bs h → (past : List Event) (e : Event) (es : List Event) (item : ℕ)
       → eventsOf h ≡ past ++ (e ∷ es) → (m : Meant past e item)
       → (buttonAt (m .pressing .buttons) (m .place) .item ≡ item) × (isShown (buttonAt (m .pressing .buttons) (m .place)) ≡ true)
   -- a press that was ended, by a cancel or in any other way, is no choice any more: not until there is another press

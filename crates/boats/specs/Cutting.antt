@@ -19,7 +19,7 @@ pub record BetweenFrames (front : List ℕ) : Type 0 where
   pub frames : inFrames 0 (recordsIn front) ≡ true
 
 -- the call x over both parts, and the calls y and z over the one and the other
-pub record SameInTwo (x y z : Chosen) (xs ys zs : List ℕ) : Type 0 where
+pub record AnsweredInTwo (x y z : Chosen) (xs ys zs : List ℕ) : Type 0 where
   pub first : y .refusal ≡ none
   pub second : z .refusal ≡ none
   pub label : z .label ≡ x .label
@@ -30,4 +30,4 @@ pub record CutsInTwo : Type 0 where
   pub cut : (bs : List Button) (l : Label) (front back : List ℕ) (x y z : Chosen) (before xs ys zs : List ℕ) → BetweenFrames front
       → Chooses (hitIn bs) l (front ++ back) x before xs → x .refusal ≡ none
       → Chooses (hitIn bs) l front y before ys → Chooses (hitIn bs) (y .label) back z (drop (2 * y .count) ys) zs
-      → SameInTwo x y z xs ys zs
+      → AnsweredInTwo x y z xs ys zs

@@ -6,7 +6,6 @@ use mathlib.Core.Bool.{true, false, cond}
 use mathlib.Core.List.{List, [], _∷_, _++_}
 use lib.Dec.{eqb}
 use lib.ListN.{length}
-use Rattle.house.specs.declared.Point.{Point}
 use Rattle.house.specs.declared.Contact.{Contact}
 use Rattle.house.specs.declared.Record.{Record}
 use Rattle.house.specs.declared.Record.the-variants as Record
@@ -63,5 +62,5 @@ pub data Answered : List Event → List Event → List Choice → Type 0 where
   ends : (past : List Event) → Answered past [] []
   chose : (past : List Event) (e : Event) (item : ℕ) (es : List Event) (cs : List Choice) → Meant past e item → Answered (past ++ (e ∷ [])) es cs
       → Answered past (e ∷ es) (record { id = e .contact .id; item = item } ∷ cs)
-  passes : (past : List Event) (e : Event) (es : List Event) (cs : List Choice) → ((item : ℕ) → Meant past e item → ⊥) → Answered (past ++ (e ∷ [])) es cs
+  no-choice : (past : List Event) (e : Event) (es : List Event) (cs : List Choice) → ((item : ℕ) → Meant past e item → ⊥) → Answered (past ++ (e ∷ [])) es cs
       → Answered past (e ∷ es) cs

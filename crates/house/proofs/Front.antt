@@ -13,6 +13,7 @@ use Rattle.house.specs.Layout.{kindOf, headIn, contactOf, recordOf}
 use Rattle.house.specs.WellFormed.{all, headSpare, contactSpare, contactWell, kindWell, wellFormed}
 use Rattle.house.specs.declared.Record.{Record}
 use Rattle.house.specs.declared.Record.the-variants as Record
+use Rattle.house.proofs.WellFormed.{never}
 
 pub data Front : List ℕ → Type 0 where
   short : {l : List ℕ} → length l < 21 → Front l
@@ -51,6 +52,15 @@ pub well-contact : (l : List ℕ) → 21 ≤ length l → (kindOf (take 21 l) �
     → let s = take 21 l in wellFormed l ≡ all (eqb (contactSpare s) 0 ∷ contactWell (contactOf s) ∷ kindWell (kindOf s) (contactOf s) ∷ [])
 unfolding wellFormed
 well-contact l h k = rw (le-leb _ _ h, ne-eqb _ 0 k)
+
+well-long-by : (l : List ℕ) → Front l → wellFormed l ≡ true → 21 ≤ length l
+well-long-by l (Front.short h) w = never w (well-short l h)
+well-long-by l (Front.head h k) w = h
+well-long-by l (Front.contact h k) w = h
+
+-- a well-formed record is whole
+pub well-long : (l : List ℕ) → wellFormed l ≡ true → 21 ≤ length l
+well-long l w = well-long-by l (front l) w
 
 -- ---- a whole record and whatever follows
 

@@ -1,6 +1,6 @@
 -- Records in bytes, one after the other.
 -- Assumes nothing.
-use Prim.Native.Nat.{ℕ, suc, _+_, _/_, _<_, _-_}
+use Prim.Native.Nat.{ℕ, zero, suc, _+_, _/_, _<_, _-_}
 use mathlib.Core.Path.{_≡_, refl, sym, ap, _∙_}
 use mathlib.Core.List.{List, [], _∷_, _++_}
 use native.Mathlib.Omega.{arith}
@@ -20,3 +20,13 @@ records-step read l h =
 pub records-one : {R : Type 0} (read : List ℕ → R) (s t : List ℕ) → length s ≡ recordBytes → recordsIn read (s ++ t) ≡ read (s ++ t) ∷ recordsIn read t
 records-one read s t h =
     records-step read (s ++ t) (rw (length-append s t) (omega (arith, h))) ∙ ap (λ (l : List ℕ). read (s ++ t) ∷ recordsIn read l) (drop-at s t recordBytes h)
+
+-- how many there are
+from-many : {R : Type 0} (read : List ℕ → R) (n : ℕ) (l : List ℕ) → length (recordsFrom read n l) ≡ n
+unfolding recordsFrom
+from-many read zero l = refl
+from-many read (suc n) l = ap suc (from-many read n (drop recordBytes l))
+
+pub records-many : {R : Type 0} (read : List ℕ → R) (l : List ℕ) → length (recordsIn read l) ≡ (length l + 20) / recordBytes
+unfolding recordsIn
+records-many read l = from-many read ((length l + 20) / recordBytes) l

@@ -2,4 +2,5 @@
 pub mod Places
 pub mod Unique
 pub mod Again
+pub mod Arrays
 pub mod Held

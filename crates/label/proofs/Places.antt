@@ -9,7 +9,7 @@ use borrow.Author.Tests.{not-true, not-false, lt-ltb}
 use lib.Dec.{T as Holds, leb·suc-suc}
 use lib.ListN.{length}
 use Rattle.house.specs.declared.Point.{Point}
-use Rattle.presses.specs.Buttons.{holds, buttonAt, placeOf, nowhere, hitOf, hitIn}
+use Rattle.presses.specs.Buttons.{holds, buttonAt, firstHolding, nowhere, hitOf, hitIn}
 use Rattle.presses.specs.Turns.{lookAt, hitAt}
 use Rattle.presses.specs.declared.Button.{Button}
 use Rattle.presses.specs.declared.Look.{Look}
@@ -31,8 +31,8 @@ passed-behind : (b : Button) (bs : List Button) (k : ℕ) (p : Point) → passed
 passed-behind b bs k p = ap (λ t. t && not (holds (buttonAt bs k) p)) (leb·suc-suc (suc k) (length bs))
 
 -- THE PLACE that a search ends at: it passes each place before the first shown button that holds the point, and no further
-pub first-place : (bs : List Button) (p : Point) (r : ℕ) → ((k : ℕ) → k < r → passed bs k p ≡ true) → passed bs r p ≡ false → r ≡ placeOf bs p
-unfolding placeOf
+pub first-place : (bs : List Button) (p : Point) (r : ℕ) → ((k : ℕ) → k < r → passed bs k p ≡ true) → passed bs r p ≡ false → r ≡ firstHolding bs p
+unfolding firstHolding
 first-place [] p zero past end = refl
 first-place [] p (suc r) past end = absurd (subst Holds (sym (past 0 (omega arith))) tt)
 first-place (b ∷ bs) p zero past end = rw (not-false (holds b p) (sym (passed-first b bs p) ∙ end))
@@ -41,7 +41,7 @@ first-place (b ∷ bs) p (suc r) past end =
     (ap suc (first-place bs p r (λ k l. sym (passed-behind b bs k p) ∙ past (suc k) (omega (arith, l))) (sym (passed-behind b bs r p) ∙ end)))
 
 -- the hit at the place of a point that is looked at, and none where none is
-pub hit-due : (bs : List Button) (l : List ℕ) (at : ℕ) (look : Look) (place : ℕ) → look ≡ lookAt l at → look .due ≡ true → place ≡ placeOf bs (look .point) → hitOf bs place ≡ hitAt (hitIn bs) l at
+pub hit-due : (bs : List Button) (l : List ℕ) (at : ℕ) (look : Look) (place : ℕ) → look ≡ lookAt l at → look .due ≡ true → place ≡ firstHolding bs (look .point) → hitOf bs place ≡ hitAt (hitIn bs) l at
 unfolding hitIn hitAt
 hit-due bs l at look place e due p =
     ap (λ n. hitOf bs n) p ∙ ap (λ d. hitIn bs (d .point)) e ∙ ap (λ t. cond t (hitIn bs (lookAt l at .point)) nowhere) (sym due ∙ ap (λ d. d .due) e)

@@ -1,26 +1,27 @@
 // A run over all records, with the button of each looked up in a lent list.
 use crate::search::hit_at;
 use presses::Button;
-use presses::Label;
-use presses::Run;
+use presses::Tally;
 ghost use mathlib.Core.Path.{_≡_};
 ghost use Rattle.presses.specs.Buttons.{hitIn};
-ghost use Rattle.presses.specs.Turns.{begun, driven};
+ghost use Rattle.presses.specs.Turns.{begunAt, wentTo, driven};
 
-// Choices are written only where `writing`: otherwise they are counted.
+// From a place on. Choices are written only where `writing`: otherwise they are counted.
 pub(crate) fn drive(
-    label: Label,
+    states: &mut [u8; 256],
+    pressed: &mut [usize; 256],
+    from: usize,
     buttons: &[Button],
     records: &[u8],
     choices: &mut [u32],
     writing: bool,
-) -> Run
-    ensures { λ r. ⌜ record { run = r; out = now (choices .exit) } ≡ driven (hitIn (now (buttons .entry))) (now (records .entry)) writing (record { run = begun label; out = now (choices .entry) }) ⌝ }
+) -> Tally
+    ensures { λ r. ⌜ wentTo (now (states .exit)) (now (pressed .exit)) r (now (choices .exit)) ≡ driven (hitIn (now (buttons .entry))) (now (records .entry)) writing (wentTo (now (states .entry)) (now (pressed .entry)) (begunAt from) (now (choices .entry))) ⌝ }
 {
-    let mut run = presses::begin(label);
-    while run.at < records.len() {
-        let hit = hit_at(buttons, records, run.at);
-        run = presses::go_on(run, hit, records, choices, writing);
+    let mut tally = presses::begin(from);
+    while tally.at < records.len() {
+        let hit = hit_at(buttons, records, tally.at);
+        tally = presses::go_on(states, pressed, tally, hit, records, choices, writing);
     }
-    run
+    tally
 }

@@ -1,10 +1,10 @@
 // The boat list: which button of a lent list a point is in, which of them are shown, and what was chosen.
 use presses::Button;
-use presses::Chosen;
-use presses::Label;
+use presses::Picked;
 ghost use mathlib.Core.Path.{_≡_};
-ghost use Rattle.presses.specs.Buttons.{placeOf, hitIn, SetsShown};
+ghost use Rattle.presses.specs.Buttons.{firstHolding, hitIn, SetsShown};
 ghost use Rattle.presses.specs.Choosing.{Chooses};
+ghost use Rattle.presses.specs.Turns.{chosenAs};
 
 mod drive;
 mod search;
@@ -12,7 +12,7 @@ mod search;
 // The place of the first shown button that holds a point, or the number of buttons where there is none.
 #[no_mangle]
 pub extern "C" fn kangirlo_button_at(buttons: &[Button], x: i32, y: i32) -> usize
-    ensures { λ r. ⌜ r ≡ placeOf (now (buttons .entry)) (record { x = x; y = y }) ⌝ }
+    ensures { λ r. ⌜ r ≡ firstHolding (now (buttons .entry)) (record { x = x; y = y }) ⌝ }
 {
     let mut at: usize = 0;
     while search::passes(buttons, at, x, y) {
@@ -34,18 +34,34 @@ pub extern "C" fn kangirlo_set_shown(buttons: &mut [Button], place: usize, shown
     }
 }
 
-// The choices of records: each a contact's id and an item, in the order of the records; or a refusal, 14 or 13, with nothing changed.
+// The choices of records, of a label that is lent in parts: each a contact's id and an item, in the order of the records; or a refusal, 14 or
+// 13, with nothing changed.
 #[no_mangle]
-pub extern "C" fn kangirlo_choose(
-    label: Label,
+pub extern "C" fn kangirlo_choose_parts(
+    states: &mut [u8; 256],
+    pressed: &mut [usize; 256],
     buttons: &[Button],
     records: &[u8],
     choices: &mut [u32],
-) -> Chosen
-    ensures { λ r. ⌜ Chooses (hitIn (now (buttons .entry))) label (now (records .entry)) r (now (choices .entry)) (now (choices .exit)) ⌝ }
+) -> Picked
+    ensures { λ r. ⌜ Chooses (hitIn (now (buttons .entry))) (record { states = now (states .entry); pressed = now (pressed .entry) }) (now (records .entry)) (chosenAs (now (states .exit)) (now (pressed .exit)) r) (now (choices .entry)) (now (choices .exit)) ⌝ }
 {
-    let counted = drive::drive(label, buttons, records, choices, false);
-    let refusal = presses::rule(label, records, counted, choices.len());
-    let run = drive::drive(label, buttons, records, choices, refusal == 0);
-    presses::conclude(label, run, refusal)
+    let mut tried_states = *states;
+    let mut tried_pressed = *pressed;
+    let bytes = records.len();
+    let numbers = choices.len();
+    let from = presses::counting_from(bytes, numbers);
+    let tried = drive::drive(
+        &mut tried_states,
+        &mut tried_pressed,
+        from,
+        buttons,
+        records,
+        choices,
+        false,
+    );
+    let refusal = presses::rule(*states, records, tried.count, numbers);
+    let start = presses::writing_from(refusal, bytes);
+    let run = drive::drive(states, pressed, start, buttons, records, choices, true);
+    presses::conclude(refusal, run)
 }

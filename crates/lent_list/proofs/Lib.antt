@@ -1,2 +1,3 @@
 -- What is shown of arrays of buttons.
 mod Arrays
+pub mod Unique

@@ -20,7 +20,23 @@ pub fn choose_lent(
 ) -> Chosen
     ensures { λ r. ⌜ Chooses (hitIn buttons) label (now (records .entry)) r (now (choices .entry)) (now (choices .exit)) ⌝ }
 {
-    label::kangirlo_choose(label, &buttons, records, choices)
+    let mut states = label.states;
+    let mut pressed = label.pressed;
+    let picked = label::kangirlo_choose_parts(
+        &mut states,
+        &mut pressed,
+        &buttons,
+        records,
+        choices,
+    );
+    Chosen {
+        label: Label {
+            states: states,
+            pressed: pressed,
+        },
+        refusal: picked.refusal,
+        count: picked.count,
+    }
 }
 
 // Shows or hides the button at a place of a list.

@@ -5,8 +5,8 @@ use mathlib.Core.Path.{_≡_, refl, sym, ap, _∙_}
 use mathlib.Core.Bool.{Bool, true, false, cond}
 use mathlib.Core.List.{List, [], _∷_, _++_}
 use native.Mathlib.Omega.{arith}
-use borrow.Author.Tests.{eqb-true, eqb-false, leb-true, leb-false}
-use lib.Dec.{eqb, leb}
+use borrow.Author.Tests.{eqb-true, le-leb, leb-true, leb-false, ltb-true}
+use lib.Dec.{eqb, leb, ltb}
 use lib.ListN.{length, getD, set, drop, length-drop, length-append, drop-of-length-le}
 use lib.Seq.{drop-drop}
 use Rattle.paper.specs.Refusals.{none, noRoom, badRecord}
@@ -17,17 +17,17 @@ use Rattle.house.specs.Records as house
 use Rattle.house.specs.declared.Point.{Point}
 use Rattle.house.specs.declared.Record.{Record}
 use Rattle.house.specs.declared.Record.the-variants as Record
-use Rattle.house.proofs.Records.{records-step}
+use Rattle.house.proofs.Records.{records-step, records-many}
 use Rattle.house.proofs.WellFormed.{never}
 use Rattle.presses.specs.declared.Label.{Label}
 use Rattle.presses.specs.declared.Hit.{Hit}
-use Rattle.presses.specs.declared.Run.{Run}
-use Rattle.presses.specs.declared.Chosen.{Chosen}
+use Rattle.presses.specs.declared.Tally.{Tally}
+use Rattle.presses.specs.declared.Picked.{Picked}
 use Rattle.presses.specs.Buttons.{nowhere}
-use Rattle.presses.specs.Choosing.{Choice, press, looks, isLift, pressedAfter, isChoice, pointOf, statesAfter, pressedIn, recordKept, recordChosen, keptOf, chosenIn, recordsIn, isTaken, numbersOf, refusalOf, answered, left, Chooses}
-use Rattle.presses.specs.Turns.{looksIn, lookAt, hitAt, putChoices, Went, begun, nextAt, counted, turnedBy, wentOn, turns, driven, ruled, concluded}
-use Rattle.presses.proofs.Driving.{next-is}
-use Rattle.presses.proofs.Putting.{places-fit, counted-is, put-append, put-none, put-all}
+use Rattle.presses.specs.Choosing.{Choice, press, looks, isLift, pressedAfter, isChoice, pointOf, statesAfter, pressedIn, recordKept, recordChosen, keptOf, chosenIn, recordsIn, isTaken, numbersOf, refusalOf, decided, listAfter, Chooses}
+use Rattle.presses.specs.Turns.{looksIn, lookAt, hitAt, putChoices, Went, wentTo, begunAt, nextAt, tallied, turnedBy, wentOn, turns, driven, countingFrom, ruled, writingFrom, concluded, chosenAs}
+use Rattle.presses.proofs.Driving.{next-is, driven-done}
+use Rattle.presses.proofs.Putting.{numbers-long, places-fit, counted-is, put-append, put-none, put-all}
 
 -- ---- flags that do not look at buttons do the same in any
 
@@ -79,7 +79,7 @@ module _ (hit : Point → Hit) (l : List ℕ) (at : ℕ) where
   chosen-here pressed = ap (λ (h : Hit). recordChosen h pressed here) hit-is ∙ chosen-by here (looksIn here) pressed refl
 
 -- a record is one choice at most
-pub one-choice : (h : Hit) (pressed : List ℕ) (r : Record) → length (recordChosen h pressed r) ≤ 1
+one-choice : (h : Hit) (pressed : List ℕ) (r : Record) → length (recordChosen h pressed r) ≤ 1
 unfolding recordChosen
 one-choice h pressed (Record.Head x) = omega arith
 one-choice h pressed (Record.Contact kind c) = go (isChoice (c .flags) h (getD pressed (c .id) 0))
@@ -128,7 +128,7 @@ module _ (hit : Point → Hit) (l : List ℕ) (writing : Bool) where
       let kept = kept-here hit l (w .run .at) (w .run .label) in
       let cs = chosen-here hit l (w .run .at) (w .run .label .pressed) in
       λ i. record {
-        run = record { label = kept i; at = nextAt (length l) (w .run .at); count = counted (cs i) (w .run .count) };
+        run = record { label = kept i; at = nextAt (length l) (w .run .at); count = tallied (cs i) (w .run .count) };
         out = putChoices writing (w .run .count) (cs i) (w .out);
       }
 
@@ -139,9 +139,9 @@ module _ (hit : Point → Hit) (l : List ℕ) (writing : Bool) where
       let h = hit (pointOf r) in
       let xs : List Choice = recordChosen h (w .run .label .pressed) r in
       let ys : List Choice = chosenIn hit (recordKept h (w .run .label) r) rs in
-      let c : counted xs (w .run .count) ≡ w .run .count + length xs = counted-is xs (w .run .count) (omega (arith, fits, one-choice h (w .run .label .pressed) r)) in
-      let m : counted xs (w .run .count) + length ys ≡ w .run .count + length (xs ++ ys) = rw (c, length-append xs ys) (omega arith) in
-      let o : putChoices writing (counted xs (w .run .count)) ys (putChoices writing (w .run .count) xs (w .out)) ≡ putChoices writing (w .run .count) (xs ++ ys) (w .out) =
+      let c : tallied xs (w .run .count) ≡ w .run .count + length xs = counted-is xs (w .run .count) (omega (arith, fits, one-choice h (w .run .label .pressed) r)) in
+      let m : tallied xs (w .run .count) + length ys ≡ w .run .count + length (xs ++ ys) = rw (c, length-append xs ys) (omega arith) in
+      let o : putChoices writing (tallied xs (w .run .count)) ys (putChoices writing (w .run .count) xs (w .out)) ≡ putChoices writing (w .run .count) (xs ++ ys) (w .out) =
       ap (λ (k : ℕ). putChoices writing k ys (putChoices writing (w .run .count) xs (w .out))) c ∙ put-append writing (w .run .count) xs ys (w .out) in
       λ i. record { run = record { label = keptOf hit (recordKept h (w .run .label) r) rs; at = length l; count = m i }; out = o i }
 
@@ -158,14 +158,23 @@ module _ (hit : Point → Hit) (l : List ℕ) (writing : Bool) where
       let v = turnedBy (hit (pointOf r)) r (nextAt (length l) (w .run .at)) writing w in
       let xs : List Choice = recordChosen (hit (pointOf r)) (w .run .label .pressed) r in
       let one = one-choice (hit (pointOf r)) (w .run .label .pressed) r in
-      let c : counted xs (w .run .count) ≡ w .run .count + length xs = counted-is xs (w .run .count) (omega (arith, fits, one)) in
+      let c : tallied xs (w .run .count) ≡ w .run .count + length xs = counted-is xs (w .run .count) (omega (arith, fits, one)) in
       ap (turns k hit l writing) (turn-same w) ∙ runs k v (n .1) (omega (arith, e, n .2)) (omega (arith, c, fits, one))
       ∙ came-on w r (nextAt (length l) (w .run .at)) (recordsIn (drop (nextAt (length l) (w .run .at)) l)) (omega (arith, fits))
       ∙ ap (came w) (sym (rest-is l (w .run .at) a))
 
-  pub driven-is : (label : Label) (out : List ℕ) → length l < 2 ^ 64 → driven hit l writing (record { run = begun label; out = out }) ≡ came (record { run = begun label; out = out }) (recordsIn l)
+  driven-is : (s p out : List ℕ) → length l < 2 ^ 64 → let w : Went = wentTo s p (begunAt 0) out in driven hit l writing w ≡ came w (recordsIn l)
   unfolding driven
-  driven-is label out fits = runs ((length l - 0 + 20) / 21) (record { run = begun label; out = out }) (omega arith) refl (omega (arith, fits))
+  driven-is s p out fits = runs ((length l - 0 + 20) / 21) (wentTo s p (begunAt 0) out) (omega arith) refl (omega (arith, fits))
+
+-- no more choices than records
+pub chosen-few : (hit : Point → Hit) (label : Label) (rs : List Record) → length (chosenIn hit label rs) ≤ length rs
+unfolding chosenIn
+chosen-few hit label [] = omega arith
+chosen-few hit label (r ∷ rs) =
+    let h : Hit = hit (pointOf r) in
+    rw (length-append (recordChosen h (label .pressed) r) (chosenIn hit (recordKept h label r) rs))
+    (omega (arith, one-choice h (label .pressed) r, chosen-few hit (recordKept h label r) rs))
 
 -- ---- the call
 
@@ -182,34 +191,72 @@ roomy hit label l room e = go (isTaken (label .states) l) (leb n room) refl e
     go true false h e = absurd (omega (arith, e))
     go false b h e = absurd (omega (arith, e))
 
-put-by : (b : Bool) (cs : List Choice) (out : List ℕ) → (b ≡ true → length (numbersOf cs) ≤ length out) → putChoices b 0 cs out ≡ cond b (laid out (numbersOf cs)) out
-put-by true cs out h = put-all cs out (h refl)
-put-by false cs out h = put-none 0 cs out
+-- what a run that counts answers: nothing is written, and what it counted, or left uncounted, fits just where all choices do
+pub record Tried (hit : Point → Hit) (label : Label) (l before mid : List ℕ) (count : ℕ) : Type 0 where
+  pub same : mid ≡ before
+  pub fits : leb count (length before / 2) ≡ leb (length (numbersOf (chosenIn hit label (recordsIn l)))) (length before)
+
+tried-is : (hit : Point → Hit) (label : Label) (l before mid s p : List ℕ) (tried : Tally) → length l < 2 ^ 64
+    → wentTo s p tried mid ≡ driven hit l false (wentTo (label .states) (label .pressed) (begunAt (countingFrom (length l) (length before))) before)
+    → Tried hit label l before mid (tried .count)
+tried-is hit label l before mid s p tried fits e = go (ltb (length l / recordBytes) (length before / 2)) refl e
+  where
+    cs : List Choice
+    cs = chosenIn hit label (recordsIn l)
+
+    go : (b : Bool) → ltb (length l / recordBytes) (length before / 2) ≡ b
+        → wentTo s p tried mid ≡ driven hit l false (wentTo (label .states) (label .pressed) (begunAt (cond b (length l) 0)) before) → Tried hit label l before mid (tried .count)
+    go true k e =
+        let w : Went = wentTo (label .states) (label .pressed) (begunAt (length l)) before in
+        let f = e ∙ driven-done hit l false w (omega arith) in
+        let none-counted : tried .count ≡ 0 = ap (λ (v : Went). v .run .count) f in
+        let few : length cs ≤ length (recordsIn l) = chosen-few hit label (recordsIn l) in
+        let many : length (recordsIn l) ≡ (length l + 20) / 21 = records-many recordOf l in
+        let less : length l / recordBytes < length before / 2 = ltb-true _ _ k in
+        let a : 0 ≤ length before / 2 = omega arith in
+        let b : length (numbersOf cs) ≤ length before = omega (arith, numbers-long cs, few, many, less) in
+        record { same = ap (λ (v : Went). v .out) f; fits = rw (none-counted, le-leb _ _ a, le-leb _ _ b) refl }
+    go false k e =
+        let f = e ∙ driven-is hit l false (label .states) (label .pressed) before fits in
+        let counted-all : tried .count ≡ length cs = ap (λ (v : Went). v .run .count) f ∙ omega arith in
+        record { same = ap (λ (v : Went). v .out) f ∙ put-none 0 cs before; fits = rw counted-all (places-fit cs (length before)) }
 
 -- a run that counts, the ruling, and a run that writes where nothing is refused
-pub chosen-is : (hit : Point → Hit) (label : Label) (l before mid after : List ℕ) (tried run : Run) (e : ℕ) (x : Chosen) → length l < 2 ^ 64
-    → record { run = tried; out = mid } ≡ driven hit l false (record { run = begun label; out = before }) → e ≡ ruled label l tried (length mid)
-    → record { run = run; out = after } ≡ driven hit l (eqb e none) (record { run = begun label; out = mid }) → x ≡ concluded label run e
-    → Chooses hit label l x before after
+pub chosen-is : (hit : Point → Hit) (label : Label) (l before mid after s p s′ p′ : List ℕ) (tried run : Tally) (e : ℕ) (x : Picked) → length l < 2 ^ 64
+    → wentTo s p tried mid ≡ driven hit l false (wentTo (label .states) (label .pressed) (begunAt (countingFrom (length l) (length before))) before)
+    → e ≡ ruled (label .states) l (tried .count) (length before)
+    → wentTo s′ p′ run after ≡ driven hit l true (wentTo (label .states) (label .pressed) (begunAt (writingFrom e (length l))) mid)
+    → x ≡ concluded e run → Chooses hit label l (chosenAs s′ p′ x) before after
 unfolding refusalOf
-chosen-is hit label l before mid after tried run e x fits first ruling second answer =
-    let cs : List Choice = chosenIn hit label (recordsIn l) in
-    let kept : Label = keptOf hit label (recordsIn l) in
-    let room : ℕ = length before in
-    let f = first ∙ driven-is hit l false label before fits in
-    let mid-is : mid ≡ before = ap (λ (w : Went). w .out) f ∙ put-none 0 cs before in
-    let tried-is : tried .count ≡ length cs = ap (λ (w : Went). w .run .count) f ∙ omega arith in
-    let e-is : e ≡ refusalOf hit label l room =
-    ruling ∙ (λ i. ruled label l (record { label = tried .label; at = tried .at; count = tried-is i }) (length (mid-is i)))
-    ∙ ap (λ (b : Bool). cond (isTaken (label .states) l) (cond b none noRoom) badRecord) (places-fit cs room) in
-    let s = second ∙ driven-is hit l (eqb e none) label mid fits in
-    let label-is : run .label ≡ kept = ap (λ (w : Went). w .run .label) s in
-    let count-is : run .count ≡ length cs = ap (λ (w : Went). w .run .count) s ∙ omega arith in
-    let enough : eqb e none ≡ true → length (numbersOf cs) ≤ room = λ h. roomy hit label l room (sym e-is ∙ eqb-true _ _ h) in
-    record {
-      answer =
-          answer ∙ (λ i. cond (eqb e none) (record { label = label-is i; refusal = none; count = count-is i }) (record { label = label; refusal = e; count = 0 }))
-          ∙ ap (λ (n : ℕ). answered n label kept cs) e-is;
-      output =
-          ap (λ (w : Went). w .out) s ∙ ap (putChoices (eqb e none) 0 cs) mid-is ∙ put-by (eqb e none) cs before enough ∙ ap (λ (n : ℕ). left n before cs) e-is;
-    }
+chosen-is hit label l before mid after s p s′ p′ tried run e x fits first ruling second answer =
+    let t = tried-is hit label l before mid s p tried fits first in
+    let f : e ≡ refusalOf hit label l (length before) = ruling ∙ ap (λ (b : Bool). cond (isTaken (label .states) l) (cond b none noRoom) badRecord) (t .fits) in
+    let w : (from : ℕ) → Went = λ from. wentTo (label .states) (label .pressed) (begunAt from) before in
+    let g : wentTo s′ p′ run after ≡ driven hit l true (w (writingFrom e (length l))) =
+    second ∙ ap (λ (o : List ℕ). driven hit l true (wentTo (label .states) (label .pressed) (begunAt (writingFrom e (length l))) o)) (t .same) in
+    let a : chosenAs s′ p′ x ≡ chosenAs s′ p′ (concluded e run) = ap (chosenAs s′ p′) answer in
+    go (eqb e none) refl f g a
+  where
+    cs : List Choice
+    cs = chosenIn hit label (recordsIn l)
+
+    go : (b : Bool) → eqb e none ≡ b → e ≡ refusalOf hit label l (length before) → wentTo s′ p′ run after ≡ driven hit l true (wentTo (label .states) (label .pressed) (begunAt (cond b 0 (length l))) before)
+        → chosenAs s′ p′ x ≡ chosenAs s′ p′ (concluded e run) → Chooses hit label l (chosenAs s′ p′ x) before after
+    go true k f g a =
+        let z : e ≡ none = eqb-true _ _ k in
+        let h = g ∙ driven-is hit l true (label .states) (label .pressed) before fits in
+        let room : length (numbersOf cs) ≤ length before = roomy hit label l (length before) (sym f ∙ z) in
+        let n : run .count ≡ length cs = ap (λ (v : Went). v .run .count) h ∙ omega arith in
+        record {
+          answer = a ∙ (λ i. record { label = h i .run .label; refusal = z i; count = n i }) ∙ ap (λ (m : ℕ). decided m label (keptOf hit label (recordsIn l)) cs) (sym z ∙ f);
+          output = ap (λ (v : Went). v .out) h ∙ put-all cs before room ∙ ap (λ (m : ℕ). listAfter m before cs) (sym z ∙ f);
+        }
+    go false k f g a =
+        let w : Went = wentTo (label .states) (label .pressed) (begunAt (length l)) before in
+        let h = g ∙ driven-done hit l true w (omega arith) in
+        let q : decided e label (keptOf hit label (recordsIn l)) cs ≡ record { label = label; refusal = e; count = 0 } = ap (λ (b : Bool). cond b (record { label = keptOf hit label (recordsIn l); refusal = none; count = length cs }) (record { label = label; refusal = e; count = 0 })) k in
+        let o : listAfter e before cs ≡ before = ap (λ (b : Bool). cond b (laid before (numbersOf cs)) before) k in
+        record {
+          answer = a ∙ (λ i. record { label = h i .run .label; refusal = e; count = h i .run .count }) ∙ sym q ∙ ap (λ (m : ℕ). decided m label (keptOf hit label (recordsIn l)) cs) f;
+          output = ap (λ (v : Went). v .out) h ∙ sym o ∙ ap (λ (m : ℕ). listAfter m before cs) f;
+        }

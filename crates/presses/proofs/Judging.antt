@@ -1,6 +1,6 @@
 -- Records that are taken, one after the other.
 -- Assumes nothing.
-use Prim.Native.Nat.{ℕ, _≤_, _<_}
+use Prim.Native.Nat.{ℕ, _<_}
 use mathlib.Core.Path.{_≡_, refl}
 use mathlib.Core.Bool.{Bool, true, false, cond, not, Bool·beq}
 use mathlib.Core.List.{List, [], _∷_}
@@ -11,9 +11,7 @@ use Rattle.house.specs.Fields.{recordBytes}
 use Rattle.house.specs.Layout.{recordOf}
 use Rattle.house.specs.Records as house
 use Rattle.house.specs.WellFormed.{all, wellFormed}
-use Rattle.house.proofs.Front.{Front, front, well-short}
 use Rattle.house.proofs.Records.{records-step}
-use Rattle.house.proofs.WellFormed.{never}
 use Rattle.presses.specs.Choosing.{mayStand, dueAfter, inFrames, isLegal, statesAfter, byTable, isTakenFrom}
 
 -- a contact of a frame stands where one is due
@@ -22,15 +20,6 @@ due-is true true = refl
 due-is true false = refl
 due-is false true = refl
 due-is false false = refl
-
-long-by : (l : List ℕ) → Front l → wellFormed l ≡ true → recordBytes ≤ length l
-long-by l (Front.short h) w = never w (well-short l h)
-long-by l (Front.head h k) w = h
-long-by l (Front.contact h k) w = h
-
--- a well-formed record is whole
-pub long : (l : List ℕ) → wellFormed l ≡ true → recordBytes ≤ length l
-long l w = long-by l (front l) w
 
 same : (b : Bool) → cond b true false ≡ b
 same true = refl

@@ -1,8 +1,8 @@
 -- Choices as numbers, put one behind the other, and counted.
 -- Assumes nothing.
-use Prim.Native.Nat.{ℕ, suc, _+_, _*_, _/_, _%_, _^_, _≤_, _<_}
+use Prim.Native.Nat.{ℕ, suc, _+_, _*_, _/_, _^_, _≤_, _<_}
 use mathlib.Core.Path.{_≡_, refl, sym, ap, _∙_}
-use mathlib.Core.Bool.{Bool, true, false, cond}
+use mathlib.Core.Bool.{Bool, true, false}
 use mathlib.Core.List.{List, [], _∷_, _++_}
 use native.Mathlib.Nat.{mod-eq-of-lt}
 use native.Mathlib.Omega.{arith}
@@ -13,7 +13,7 @@ use lib.Seq.{drop-cons, set-at, length-take-le}
 use Rattle.slices.specs.Writing.{laid}
 use Rattle.slices.proofs.Tails.{laidAt, laid-none, laid-next, laid-length}
 use Rattle.presses.specs.Choosing.{Choice, numbersOf}
-use Rattle.presses.specs.Turns.{putChoices, counted}
+use Rattle.presses.specs.Turns.{putChoices, tallied}
 
 -- ---- how many numbers
 
@@ -38,8 +38,8 @@ places-fit cs n = rw (numbers-long cs) (go (leb (length cs) (n / 2)) refl)
 
 -- ---- counted
 
-pub counted-is : (cs : List Choice) (n : ℕ) → n + length cs < 2 ^ 64 → counted cs n ≡ n + length cs
-unfolding counted
+pub counted-is : (cs : List Choice) (n : ℕ) → n + length cs < 2 ^ 64 → tallied cs n ≡ n + length cs
+unfolding tallied
 counted-is [] n h = omega arith
 counted-is (c ∷ cs) n h =
     let k : n + 1 < 2 ^ 64 = omega (arith, h) in

@@ -1,21 +1,27 @@
 -- Two outcomes that a contract allows are equal. (Every other call's contract is an equation of its result.)
 -- Assumes nothing.
 use Prim.Native.Nat.{ℕ}
-use mathlib.Core.Path.{_≡_, sym, ap, _∙_}
+use mathlib.Core.Path.{_≡_, sym, _∙_}
 use mathlib.Core.Bool.{Bool}
 use mathlib.Core.List.{List}
 use Rattle.house.specs.declared.Point.{Point}
 use Rattle.presses.specs.declared.Hit.{Hit}
-use Rattle.presses.specs.declared.Run.{Run}
+use Rattle.presses.specs.declared.Tally.{Tally}
 use Rattle.presses.specs.declared.Label.{Label}
 use Rattle.presses.specs.declared.Chosen.{Chosen}
 use Rattle.presses.specs.Choosing.{Chooses}
-use Rattle.presses.specs.Turns.{Went, wentOn}
+use Rattle.presses.specs.Turns.{Went, wentTo, wentOn}
 
--- of `go_on`: the run that is answered, and the list of choices
-pub go-on-unique : (h : Hit) (l : List ℕ) (writing : Bool) (w : Went) (r r′ : Run) (out out′ : List ℕ) → record { run = r; out = out } ≡ wentOn h l writing w → record { run = r′; out = out′ } ≡ wentOn h l writing w
-    → (r ≡ r′) × (out ≡ out′)
-go-on-unique h l writing w r r′ out out′ e f = let same : _≡_ {A = Went} (record { run = r; out = out }) (record { run = r′; out = out′ }) = e ∙ sym f in (ap (λ (v : Went). v .run) same, ap (λ (v : Went). v .out) same)
+-- of `go_on`: the tally that is answered, what is kept, and the list of choices
+pub go-on-unique : (h : Hit) (l : List ℕ) (writing : Bool) (w : Went) (r r′ : Tally) (s s′ p p′ out out′ : List ℕ) → wentTo s p r out ≡ wentOn h l writing w → wentTo s′ p′ r′ out′ ≡ wentOn h l writing w
+    → (r ≡ r′) × (s ≡ s′) × (p ≡ p′) × (out ≡ out′)
+go-on-unique h l writing w r r′ s s′ p p′ out out′ e f =
+    let same : wentTo s p r out ≡ wentTo s′ p′ r′ out′ = e ∙ sym f in (
+      (λ i. record { at = same i .run .at; count = same i .run .count }),
+      (λ i. same i .run .label .states),
+      (λ i. same i .run .label .pressed),
+      (λ i. same i .out),
+    )
 
 -- of the call that chooses
 pub choose-unique : (hit : Point → Hit) (l : Label) (records : List ℕ) (x y : Chosen) (before after after′ : List ℕ) → Chooses hit l records x before after → Chooses hit l records y before after′

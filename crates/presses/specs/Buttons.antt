@@ -23,9 +23,9 @@ unfoldable pub holds : Button → Point → Bool
 holds b p = isShown b && isInside b p
 
 -- "A point is in the first shown button that holds it": its place in the list, from 0; the list's length where there is none
-unfoldable pub placeOf : List Button → Point → ℕ
-placeOf [] p = 0
-placeOf (b ∷ bs) p = cond (holds b p) 0 (suc (placeOf bs p))
+unfoldable pub firstHolding : List Button → Point → ℕ
+firstHolding [] p = 0
+firstHolding (b ∷ bs) p = cond (holds b p) 0 (suc (firstHolding bs p))
 
 -- what stands past the end of a list
 abbrev pub blank : Button
@@ -43,7 +43,7 @@ abbrev pub hitOf : List Button → ℕ → Hit
 hitOf bs place = cond (ltb place (length bs)) (record { number = place + 1; item = buttonAt bs place .item }) nowhere
 
 unfoldable pub hitIn : List Button → Point → Hit
-hitIn bs p = hitOf bs (placeOf bs p)
+hitIn bs p = hitOf bs (firstHolding bs p)
 
 -- "The screen shows and hides buttons .., changing that one button in the lent list and no other."
 abbrev pub marked : ℕ → Button → Button

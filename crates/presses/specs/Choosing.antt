@@ -21,13 +21,9 @@ use Rattle.presses.specs.declared.Label.{Label}
 use Rattle.presses.specs.declared.Hit.{Hit}
 use Rattle.presses.specs.declared.Chosen.{Chosen}
 
--- how many contacts there are: an id is a byte
-abbrev pub contacts : ℕ
-contacts = 256
-
 -- "Each contact's state and pressed button are kept from call to call; at first all are out."
-unfoldable pub fresh : Label
-fresh = record { states = replicate contacts out; pressed = replicate contacts 0 }
+unfoldable pub freshLabel : Label
+freshLabel = record { states = replicate 256 out; pressed = replicate 256 0 }
 
 -- ---- "14 for records that are not well formed (kinds 2 and 3 between frames) or break the state table"
 
@@ -162,13 +158,13 @@ refusalOf hit l records room =
     badRecord
 
 -- "either changes nothing"
-abbrev pub answered : ℕ → Label → Label → List Choice → Chosen
-answered e before after cs = cond (eqb e none) (record { label = after; refusal = none; count = length cs }) (record { label = before; refusal = e; count = 0 })
+abbrev pub decided : ℕ → Label → Label → List Choice → Chosen
+decided e before after cs = cond (eqb e none) (record { label = after; refusal = none; count = length cs }) (record { label = before; refusal = e; count = 0 })
 
-abbrev pub left : ℕ → List ℕ → List Choice → List ℕ
-left e before cs = cond (eqb e none) (laid before (numbersOf cs)) before
+abbrev pub listAfter : ℕ → List ℕ → List Choice → List ℕ
+listAfter e before cs = cond (eqb e none) (laid before (numbersOf cs)) before
 
 -- THE CONTRACT: of the label l and records, with a list of choices that held `before`
 pub record Chooses (hit : Point → Hit) (l : Label) (records : List ℕ) (x : Chosen) (before after : List ℕ) : Type 0 where
-  pub answer : x ≡ answered (refusalOf hit l records (length before)) l (keptOf hit l (recordsIn records)) (chosenIn hit l (recordsIn records))
-  pub output : after ≡ left (refusalOf hit l records (length before)) before (chosenIn hit l (recordsIn records))
+  pub answer : x ≡ decided (refusalOf hit l records (length before)) l (keptOf hit l (recordsIn records)) (chosenIn hit l (recordsIn records))
+  pub output : after ≡ listAfter (refusalOf hit l records (length before)) before (chosenIn hit l (recordsIn records))

@@ -1,5 +1,6 @@
 -- How a run over records goes, one record a turn, for whoever looks up the buttons between the turns.
 use Prim.Native.Nat.{ℕ, zero, suc, _+_, _*_, _-_, _/_, _%_, _^_}
+use mathlib.Core.Path.{_≡_}
 use mathlib.Core.Bool.{Bool, true, false, cond}
 use mathlib.Core.List.{List, [], _∷_}
 use lib.Dec.{eqb, leb, ltb}
@@ -9,15 +10,17 @@ use Rattle.paper.specs.Refusals.{none, noRoom, badRecord}
 use Rattle.house.specs.Fields.{recordBytes}
 use Rattle.house.specs.Layout.{recordOf}
 use Rattle.house.specs.declared.Point.{Point}
+use Rattle.house.specs.declared.Contact.{Contact}
 use Rattle.house.specs.declared.Record.{Record}
 use Rattle.house.specs.declared.Record.the-variants as Record
 use Rattle.presses.specs.declared.Label.{Label}
 use Rattle.presses.specs.declared.Hit.{Hit}
 use Rattle.presses.specs.declared.Look.{Look}
-use Rattle.presses.specs.declared.Run.{Run}
+use Rattle.presses.specs.declared.Tally.{Tally}
+use Rattle.presses.specs.declared.Picked.{Picked}
 use Rattle.presses.specs.declared.Chosen.{Chosen}
 use Rattle.presses.specs.Buttons.{nowhere}
-use Rattle.presses.specs.Choosing.{Choice, looks, pointOf, recordKept, recordChosen, isTaken}
+use Rattle.presses.specs.Choosing.{Choice, looks, pointOf, statesAfter, pressedIn, contactChosen, recordKept, recordChosen, isTaken}
 
 -- whether a record looks at buttons, and where
 abbrev pub looksIn : Record → Bool
@@ -42,13 +45,23 @@ putChoices writing n (c ∷ cs) out =
     putChoices writing (suc n) cs
     (cond writing (cond (ltb n (length out / 2)) (set (set out (2 * n) (c .id)) (2 * n + 1) (c .item)) out) out)
 
--- a run, and the list of numbers
+-- a run over records: what is kept, where the next record stands, how many choices there were
+pub record Run : Type 0 where
+  pub label : Label
+  pub at : ℕ
+  pub count : ℕ
+
+-- and the list of numbers
 pub record Went : Type 0 where
   pub run : Run
   pub out : List ℕ
 
-abbrev pub begun : Label → Run
-begun l = record { label = l; at = 0; count = 0 }
+-- of its parts
+abbrev pub wentTo : List ℕ → List ℕ → Tally → List ℕ → Went
+wentTo states pressed t out = record { run = record { label = record { states = states; pressed = pressed }; at = t .at; count = t .count }; out = out }
+
+abbrev pub begunAt : ℕ → Tally
+begunAt from = record { at = from; count = 0 }
 
 abbrev pub nextAt : ℕ → ℕ → ℕ
 nextAt n at = cond (leb (at + recordBytes) n) (at + recordBytes) n
@@ -57,16 +70,23 @@ nextAt n at = cond (leb (at + recordBytes) n) (at + recordBytes) n
 abbrev pub countOn : Bool → ℕ → ℕ
 countOn chose n = cond chose ((n + 1) % 2 ^ 64) n
 
-unfoldable pub counted : List Choice → ℕ → ℕ
-counted [] n = n
-counted (c ∷ cs) n = counted cs (countOn true n)
+unfoldable pub tallied : List Choice → ℕ → ℕ
+tallied [] n = n
+tallied (c ∷ cs) n = tallied cs (countOn true n)
+
+-- what becomes of a contact that looks at the button h
+pub record TakesContact (h : Hit) (c : Contact) (writing : Bool) (before after : ℕ) (s s′ p p′ o o′ : List ℕ) : Type 0 where
+  pub states : s′ ≡ statesAfter s (Record.Contact 1 c)
+  pub pressed : p′ ≡ pressedIn h p (Record.Contact 1 c)
+  pub count : after ≡ tallied (contactChosen h p c) before
+  pub choices : o′ ≡ putChoices writing before (contactChosen h p c) o
 
 -- a turn over a record, which looks at the button h, and behind which the next one stands
 unfoldable pub turnedBy : Hit → Record → ℕ → Bool → Went → Went
 turnedBy h r next writing w =
     let cs : List Choice = recordChosen h (w .run .label .pressed) r in
     record {
-      run = record { label = recordKept h (w .run .label) r; at = next; count = counted cs (w .run .count) };
+      run = record { label = recordKept h (w .run .label) r; at = next; count = tallied cs (w .run .count) };
       out = putChoices writing (w .run .count) cs (w .out);
     }
 
@@ -81,9 +101,19 @@ turns (suc k) hit l writing w = turns k hit l writing (wentOn (hitAt hit l (w .r
 unfoldable pub driven : (Point → Hit) → List ℕ → Bool → Went → Went
 driven hit l writing w = turns ((length l - w .run .at + 20) / recordBytes) hit l writing w
 
--- 14, then 13, of a run that counted the choices
-abbrev pub ruled : Label → List ℕ → Run → ℕ → ℕ
-ruled l records counted numbers = cond (isTaken (l .states) records) (cond (leb (counted .count) (numbers / 2)) none noRoom) badRecord
+-- a call: a run that counts, unless there is room for a choice for each record; the ruling, 14 and then 13; a run that writes, unless it was refused
+abbrev pub countingFrom : ℕ → ℕ → ℕ
+countingFrom bytes numbers = cond (ltb (bytes / recordBytes) (numbers / 2)) bytes 0
 
-abbrev pub concluded : Label → Run → ℕ → Chosen
-concluded l run e = cond (eqb e none) (record { label = run .label; refusal = none; count = run .count }) (record { label = l; refusal = e; count = 0 })
+abbrev pub ruled : List ℕ → List ℕ → ℕ → ℕ → ℕ
+ruled states records count numbers = cond (isTaken states records) (cond (leb count (numbers / 2)) none noRoom) badRecord
+
+abbrev pub writingFrom : ℕ → ℕ → ℕ
+writingFrom e bytes = cond (eqb e none) 0 bytes
+
+abbrev pub concluded : ℕ → Tally → Picked
+concluded e run = record { refusal = e; count = run .count }
+
+-- the answer and the label that was left
+abbrev pub chosenAs : List ℕ → List ℕ → Picked → Chosen
+chosenAs states pressed x = record { label = record { states = states; pressed = pressed }; refusal = x .refusal; count = x .count }

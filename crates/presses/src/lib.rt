@@ -4,15 +4,18 @@ ghost use mathlib.Core.Path.{_≡_};
 ghost use Rattle.presses.specs.Buttons.{holds};
 ghost use Rattle.presses.specs.Choosing as spec;
 
+mod calls;
 mod judge;
 mod turn;
 
+pub use calls::begin;
+pub use calls::conclude;
+pub use calls::counting_from;
+pub use calls::rule;
+pub use calls::writing_from;
 pub use judge::are_taken;
-pub use turn::begin;
-pub use turn::conclude;
 pub use turn::go_on;
 pub use turn::look_at;
-pub use turn::rule;
 
 // A button: a rectangle with an item number, hidden where `shown` is 0.
 #[repr(C)]
@@ -44,15 +47,20 @@ pub struct Look {
     pub point: Point,
 }
 
-// How far a run over records has come: what is kept, where the next record stands, how many choices there were.
-pub struct Run {
-    pub label: Label,
+// How far a run over records has come: where the next record stands, and how many choices there were.
+pub struct Tally {
     pub at: usize,
     pub count: usize,
 }
 
-// What becomes of records: the label after them, a refusal's number, 0 for none, and how many choices they were.
+// What is answered of records: a refusal's number, 0 for none, and how many choices they were.
 #[repr(C)]
+pub struct Picked {
+    pub refusal: u8,
+    pub count: usize,
+}
+
+// The same, and the label after them.
 pub struct Chosen {
     pub label: Label,
     pub refusal: u8,
@@ -61,7 +69,7 @@ pub struct Chosen {
 
 // A label with all contacts out.
 pub fn fresh() -> Label
-    ensures { λ r. ⌜ r ≡ spec.fresh ⌝ }
+    ensures { λ r. ⌜ r ≡ spec.freshLabel ⌝ }
 {
     Label {
         states: [0; 256],

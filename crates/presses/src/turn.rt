@@ -1,21 +1,15 @@
 // A run over records, one a turn: between two turns somebody looks up the button that the next one looks at.
-use crate::Chosen;
 use crate::Hit;
-use crate::Label;
 use crate::Look;
-use crate::Run;
-use crate::judge::are_taken;
+use crate::Tally;
 use house::Contact;
 use house::Point;
 use house::Record;
 ghost use mathlib.Core.Path.{_≡_};
 ghost use mathlib.Core.List.{[], _∷_};
-ghost use Prim.Native.Nat.{_+_, _%_, _^_};
 ghost use mathlib.Core.Bool.{cond};
-ghost use lib.ListN.{length};
-ghost use Rattle.house.specs.declared.Record.the-variants as Record;
-ghost use Rattle.presses.specs.Choosing.{isChoice, isLift, looks, pressedAfter, contactChosen, recordKept};
-ghost use Rattle.presses.specs.Turns.{noLook, lookAt, begun, nextAt, countOn, putChoices, turnedBy, wentOn, ruled, concluded};
+ghost use Rattle.presses.specs.Choosing.{isChoice, isLift, looks, pressedAfter};
+ghost use Rattle.presses.specs.Turns.{noLook, lookAt, nextAt, countOn, putChoices, TakesContact, wentTo, wentOn};
 
 // Goes engaged.
 const PRESS: u8 = 0x19;
@@ -113,21 +107,6 @@ fn put_choice(choices: &mut [u32], writing: bool, n: usize, chose: bool, id: u8,
     }
 }
 
-// A contact's part of a label.
-fn keep(label: Label, hit: Hit, contact: Contact) -> Label
-    ensures { λ r. ⌜ r ≡ recordKept hit label (Record.Contact 1 contact) ⌝ }
-{
-    let id = contact.id as usize;
-    let mut states = label.states;
-    let mut pressed = label.pressed;
-    states[id] = states::next_state(contact.flags, states[id]);
-    pressed[id] = pressed_after(contact.flags, hit, pressed[id]);
-    Label {
-        states: states,
-        pressed: pressed,
-    }
-}
-
 // Where the record after the one at a place stands, or the end.
 fn next_at(n: usize, at: usize) -> usize
     ensures { λ r. ⌜ r ≡ nextAt n at ⌝ }
@@ -151,100 +130,63 @@ fn count_on(count: usize, chose: bool) -> usize
     count
 }
 
-// Nothing was run over yet.
-pub fn begin(label: Label) -> Run
-    ensures { λ r. ⌜ r ≡ begun label ⌝ }
-{
-    Run {
-        label: label,
-        at: 0,
-        count: 0,
-    }
-}
-
 // A turn over a contact's record.
 fn take_contact(
-    run: Run,
+    states: &mut [u8; 256],
+    pressed: &mut [usize; 256],
+    count: usize,
     hit: Hit,
     contact: Contact,
-    next: usize,
     choices: &mut [u32],
     writing: bool,
-) -> Run
-    ensures { λ r. ⌜ record { run = r; out = now (choices .exit) } ≡ turnedBy hit (Record.Contact 1 contact) next writing (record { run = run; out = now (choices .entry) }) ⌝ }
+) -> usize
+    ensures { λ r. ⌜ TakesContact hit contact writing count r (now (states .entry)) (now (states .exit)) (now (pressed .entry)) (now (pressed .exit)) (now (choices .entry)) (now (choices .exit)) ⌝ }
 {
-    let label = run.label;
-    let pressed = label.pressed;
     let id = contact.id as usize;
-    let count = run.count;
     let chose = is_choice(contact.flags, hit, pressed[id]);
     put_choice(choices, writing, count, chose, contact.id, hit.item);
-    let kept = keep(label, hit, contact);
-    Run {
-        label: kept,
-        at: next,
-        count: count_on(count, chose),
-    }
-}
-
-// A turn over a record that is no contact's.
-fn pass_by(run: Run, next: usize) -> Run
-    ensures { λ r. ⌜ r ≡ record { label = run .label; at = next; count = run .count } ⌝ }
-{
-    let label = run.label;
-    Run {
-        label: label,
-        at: next,
-        count: run.count,
-    }
+    states[id] = states::next_state(contact.flags, states[id]);
+    pressed[id] = pressed_after(contact.flags, hit, pressed[id]);
+    count_on(count, chose)
 }
 
 // The turn over the next record, which looks at the button `hit`; a choice is written only where `writing`.
-pub fn go_on(run: Run, hit: Hit, records: &[u8], choices: &mut [u32], writing: bool) -> Run
-    ensures { λ r. ⌜ record { run = r; out = now (choices .exit) } ≡ wentOn hit (now (records .entry)) writing (record { run = run; out = now (choices .entry) }) ⌝ }
+pub fn go_on(
+    states: &mut [u8; 256],
+    pressed: &mut [usize; 256],
+    tally: Tally,
+    hit: Hit,
+    records: &[u8],
+    choices: &mut [u32],
+    writing: bool,
+) -> Tally
+    ensures { λ r. ⌜ wentTo (now (states .exit)) (now (pressed .exit)) r (now (choices .exit)) ≡ wentOn hit (now (records .entry)) writing (wentTo (now (states .entry)) (now (pressed .entry)) tally (now (choices .entry))) ⌝ }
 {
-    let at = run.at;
+    let at = tally.at;
+    let count = tally.count;
     let n = records.len();
     let next = next_at(n, at);
     if n < at {
-        return pass_by(run, next);
-    }
-    match house::read_record(&records[at..]) {
-        Record::Head(_) => pass_by(run, next),
-        Record::Contact(_, contact) => take_contact(run, hit, contact, next, choices, writing),
-        Record::Refused(_) => pass_by(run, next),
-    }
-}
-
-// What records are refused with, 0 for nothing, where a run that wrote nothing has counted their choices and the list has so many numbers.
-pub fn rule(label: Label, records: &[u8], counted: Run, numbers: usize) -> u8
-    ensures { λ r. ⌜ r ≡ ruled label (now (records .entry)) counted numbers ⌝ }
-{
-    let states = label.states;
-    if are_taken(states, records) {
-        if counted.count <= numbers / 2 {
-            return 0;
-        }
-        return paper::NO_ROOM;
-    }
-    paper::BAD_RECORD
-}
-
-// The answer: the label that the run left, or a refusal with the label as it was.
-pub fn conclude(label: Label, run: Run, refusal: u8) -> Chosen
-    ensures { λ r. ⌜ r ≡ concluded label run refusal ⌝ }
-{
-    if refusal == 0 {
-        let kept = run.label;
-        return Chosen {
-            label: kept,
-            refusal: 0,
-            count: run.count,
+        return Tally {
+            at: next,
+            count: count,
         };
     }
-    Chosen {
-        label: label,
-        refusal: refusal,
-        count: 0,
+    match house::read_record(&records[at..]) {
+        Record::Head(_) => Tally {
+            at: next,
+            count: count,
+        },
+        Record::Contact(_, contact) => {
+            let counted = take_contact(states, pressed, count, hit, contact, choices, writing);
+            Tally {
+                at: next,
+                count: counted,
+            }
+        }
+        Record::Refused(_) => Tally {
+            at: next,
+            count: count,
+        },
     }
 }

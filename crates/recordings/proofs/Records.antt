@@ -20,7 +20,7 @@ use Rattle.house.specs.declared.Head.{Head}
 use Rattle.house.specs.declared.Contact.{Contact}
 use Rattle.house.specs.declared.Record.the-variants as Record
 use Rattle.house.proofs.WellFormed as well
-use Rattle.house.proofs.Front.{Front, front, record-head, record-contact, well-short, well-contact, front-is}
+use Rattle.house.proofs.Front.{record-head, record-contact, well-long, well-contact, front-is}
 use Rattle.house.proofs.Round.{length-head, length-contact, kind-head, kind-contact, head-well, contact-well, head-back, contact-back, head-fits, contact-fits, bytes-of-record}
 use Rattle.framing.specs.Frame.{Frame, headOf, contactsBytes, frameBytes, framesBytes}
 use Rattle.touch.specs.Touch.{touchRecord}
@@ -37,11 +37,6 @@ both : (b c : Bool) → cond b c false ≡ true → (b ≡ true) × (c ≡ true)
 both true c h = (refl, h)
 both false c h = well.never h refl
 
-well-long : (l : List ℕ) → Front l → wellFormed l ≡ true → 21 ≤ length l
-well-long l (Front.short h) w = well.never w (well-short l h)
-well-long l (Front.head h k) w = h
-well-long l (Front.contact h k) w = h
-
 -- what a record of a kind that stands at the front says
 pub record Stands (k : ℕ) (l : List ℕ) : Type 0 where
   pub well : wellFormed l ≡ true
@@ -51,7 +46,7 @@ pub record Stands (k : ℕ) (l : List ℕ) : Type 0 where
 pub stood : (k : ℕ) (l : List ℕ) → stands k l ≡ true → Stands k l
 stood k l h =
     let b = both _ _ h in
-    record { well = b .0; kind = eqb-true _ _ (b .1); long = well-long l (front l) (b .0) }
+    record { well = b .0; kind = eqb-true _ _ (b .1); long = well-long l (b .0) }
 
 head-again : (l : List ℕ) → Stands head l → Bytes l → headBytes (headIn (take 21 l)) ≡ take 21 l
 unfolding bytesOf

@@ -1,11 +1,14 @@
 //! A safe face of include/kangirlo.h: what is lent is a slice, a refusal is an error, and a record is an enum.
 //! Slices are never null and do not overlap where one of them is `&mut`, which is all that the header asks.
-//! It has both ends, and links both archives: libkangirlo_panel.a for [`Panel`], libkangirlo.a for all else.
+//! It has both ends and the buttons, and links all three archives: libkangirlo_panel.a for [`Panel`], liblabel.a for [`Label`] and
+//! [`Button`], libkangirlo.a for all else.
 
 mod batch;
+mod label;
 mod panel;
 
 pub use batch::{Batch, BatchAnswer};
+pub use label::{Button, CHOICES_MOST, Choice, Label, button_at, set_shown};
 pub use panel::Panel;
 use std::mem::size_of;
 
@@ -324,9 +327,12 @@ pub fn write_dismiss(output: &mut [u8], id: u8) -> Result<usize, Refusal> {
     written(unsafe { c::kangirlo_write_dismiss(output.as_mut_ptr(), output.len(), id) })
 }
 
-/// The header, declared again: all but the calls for a whole receiver or panel, beside which there are cheaper ones for its parts.
+/// The header, declared again: all but its inline functions, and the calls for a whole receiver or panel, beside which there are cheaper
+/// ones for its parts.
 mod c {
-    use super::{BatchAnswer, Microseconds, Milliseconds, Panel, Receiver, Settings, size_of};
+    use super::{
+        BatchAnswer, Button, Choice, Microseconds, Milliseconds, Panel, Receiver, Settings, size_of,
+    };
 
     #[repr(C)]
     #[derive(Clone, Copy)]
@@ -420,12 +426,19 @@ mod c {
         pub offset: Microseconds,
     }
 
+    #[repr(C)]
+    pub struct Picked {
+        pub refusal: u8,
+        pub count: usize,
+    }
+
     const _: () = assert!(size_of::<Answer>() == 16 && size_of::<PlainAnswer>() == 16);
     const _: () = assert!(size_of::<Batch>() == 24);
     const _: () = assert!(size_of::<Marks>() == 16 && size_of::<PanelMarks>() == 16);
     const _: () = assert!(size_of::<Turn>() == 32 && size_of::<BatchTurn>() == 40);
     const _: () = assert!(size_of::<PanelHeard>() == 20 && size_of::<PanelSaid>() == 32);
     const _: () = assert!(size_of::<Written>() == 16 && size_of::<Record>() == 40);
+    const _: () = assert!(size_of::<Picked>() == 16);
 
     unsafe extern "C" {
         pub fn kangirlo_fresh() -> Receiver;
@@ -516,5 +529,23 @@ mod c {
             xs: *mut [i32; 256],
             ys: *mut [i32; 256],
         ) -> PanelSaid;
+        pub fn kangirlo_choose_parts(
+            states: *mut [u8; 256],
+            pressed: *mut [usize; 256],
+            buttons: *const Button,
+            how_many: usize,
+            records: *const u8,
+            bytes: usize,
+            choices: *mut Choice,
+            numbers: usize,
+        ) -> Picked;
+        pub fn kangirlo_button_at(buttons: *const Button, how_many: usize, x: i32, y: i32)
+        -> usize;
+        pub fn kangirlo_set_shown(
+            buttons: *mut Button,
+            how_many: usize,
+            place: usize,
+            shown: u8,
+        ) -> bool;
     }
 }

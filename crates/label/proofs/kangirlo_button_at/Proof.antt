@@ -47,7 +47,7 @@ use denote.Triple.Clauses.{ensured, lasts}
 use denote.Triple.Table.{entered, cited}
 use denote.Triple.Walked.{says, Stays, stay-none-slice, stay-none, walkOf, AllGo, goes-none-slice, goes-none, Walks, ends-at, walked, walk-meets}
 use denote.Exit.{yes}
-use Rattle.presses.specs.Buttons.{buttonAt, holds, placeOf}
+use Rattle.presses.specs.Buttons.{buttonAt, holds, firstHolding}
 use Rattle.label.specs.Lists.{passed}
 use Rattle.house.specs.declared.Point.{Point}
 use Rattle.presses.specs.declared.Button.{Button}
@@ -112,7 +112,7 @@ module _ {M : Type 1} (𝓤 : URA M) (H : Heap 𝓤) (A : Atoms 𝓤) (W : Given
   said : (i : ℕ) (r : Bool) → ent 𝓤 (ensured 𝓤 H A g.ended (g.clauses 𝓤 H A mem run) (κ, tt) (x, (i, (c, (d, tt)))) tt r) (fact 𝓤 (r ≡ passed ys i point))
   said i r = exE 𝓤 _ (λ ws. snd∗ 𝓤 (sem 𝓤 H A (lasts g.ended (κ, tt) (x, (i, (c, (d, tt)))) ws)) (fact 𝓤 (r ≡ passed ys i point)))
 
-  exits : (r : ℕ) → r ≡ placeOf ys point → r < 2 ^ 64 → ent 𝓤 (⋆ 𝓤 H A ((‵ (flft κ q) ⊛ ‵ ftrue) ∷ ‵ Own ∷ [])) (Post (vint w64 r))
+  exits : (r : ℕ) → r ≡ firstHolding ys point → r < 2 ^ 64 → ent 𝓤 (⋆ 𝓤 H A ((‵ (flft κ q) ⊛ ‵ ftrue) ∷ ‵ Own ∷ [])) (Post (vint w64 r))
   exits r e r-fits =
       qed W ((‵ (flft κ q) ⊛ ‵ ftrue) ∷ ‵ Own ∷ []) ∵
       suffices ! _ (ends-at 𝓤 H A f.ended stayed (f.clauses 𝓤 H A mem run) W (((κ, tt), (q, tt), tt, (x, (c, (d, tt))), (s ∷ [], (vc ∷ [], (vd ∷ [], tt)))), tt) (vint w64 r) r (tt, (tt, (tt, tt))) (tt, (tt, (tt, tt)))) $ says ! e $

@@ -44,7 +44,7 @@ use denote.Triple.Walked.{says, Stays, stay-dropped, walkOf, AllGo, goes-dropped
 use denote.Exit.{yes}
 use Rattle.house.proofs.Point as P
 use Rattle.house.proofs.Point.Laws as P′
-use Rattle.presses.specs.Buttons.{nowhere, placeOf, hitOf, hitIn}
+use Rattle.presses.specs.Buttons.{nowhere, firstHolding, hitOf, hitIn}
 use Rattle.presses.specs.Turns.{lookAt, hitAt}
 use Rattle.presses.specs.declared.Button.{Button}
 use Rattle.presses.specs.declared.Hit.{Hit}
@@ -184,8 +184,8 @@ module _ {M : Type 1} (𝓤 : URA M) (H : Heap 𝓤) (A : Atoms 𝓤) (W : Given
       owned ! i32 (Is i32) (sint-makes 𝓤 H A W w32) (d .point .x) _ (LL.owed P.the-type P′.the-laws (d .point) _ point-is .0) $ fjoin ! $
       move ! (2 ∷ 0 ∷ []) $ fjoin ! $ move ! (1 ∷ 0 ∷ []) $ join ! $ frame ! $ done !
 
-  find-said : (d : Look) (p : ℕ) → ent 𝓤 (ensured 𝓤 H A b.ended (b.clauses 𝓤 H A mem run) (κ, tt) (y, (d .point .x, (d .point .y, tt))) tt p) (fact 𝓤 (p ≡ placeOf ys (d .point)))
-  find-said d p = exE 𝓤 _ (λ ws. snd∗ 𝓤 (sem 𝓤 H A (lasts b.ended (κ, tt) (y, (d .point .x, (d .point .y, tt))) ws)) (fact 𝓤 (p ≡ placeOf ys (d .point))))
+  find-said : (d : Look) (p : ℕ) → ent 𝓤 (ensured 𝓤 H A b.ended (b.clauses 𝓤 H A mem run) (κ, tt) (y, (d .point .x, (d .point .y, tt))) tt p) (fact 𝓤 (p ≡ firstHolding ys (d .point)))
+  find-said d p = exE 𝓤 _ (λ ws. snd∗ 𝓤 (sem 𝓤 H A (lasts b.ended (κ, tt) (y, (d .point .x, (d .point .y, tt))) ws)) (fact 𝓤 (p ≡ firstHolding ys (d .point))))
 
   -- of `hit_of`, at a place
   abbrev hit-to : ℕ → Hits 𝓤 H A mem run .Ghost
@@ -252,7 +252,7 @@ module _ {M : Type 1} (𝓤 : URA M) (H : Heap 𝓤) (A : Atoms 𝓤) (W : Given
           (and-then ! (load ! (from ! (stop !)) (look ! 15 refl)) (and-then ! (load ! (from ! (fld ! refl (fld ! refl (stop !)))) (look-in ! 9 (sub ! 0 refl (sub ! 1 refl (whole !)))))
           (and-then ! (load ! (from ! (fld ! refl (fld ! refl (stop !)))) (look-in ! 9 (sub ! 1 refl (sub ! 1 refl (whole !))))) (no-more !)))) (λ u.
           use1 W (later (some (λ (p : ℕ). (Lent ⊛ ‵ (usize .own p (u ∷ []))) ⊛ raw (ensured 𝓤 H A b.ended (b.clauses 𝓤 H A mem run) (κ, tt) (y, (d .point .x, (d .point .y, tt))) tt p)))) (id⊢ 𝓤 _) $ await ! tt $ pick ! (λ p.
-          split ! $ move ! (1 ∷ []) $ use1 W (raw (fact 𝓤 (p ≡ placeOf ys (d .point)))) (find-said d p) $ heard ! (p ≡ placeOf ys (d .point)) (λ p-is. split ! $ move ! (1 ∷ []) $
+          split ! $ move ! (1 ∷ []) $ use1 W (raw (fact 𝓤 (p ≡ firstHolding ys (d .point)))) (find-said d p) $ heard ! (p ≡ firstHolding ys (d .point)) (λ p-is. split ! $ move ! (1 ∷ []) $
           peeks ! usize (Is usize) (shows 𝓤 H A usize) p (u ∷ []) (λ p-fits. drop ! $
           -- [the buttons' token; what they own; the records' token; _7; …]
           land ! (from ! (stop !)) (init ! 7 refl (uint-lawful 𝓤 H A W w64 .typed p _ p-fits .0)) $ rewrite ! 7 (λ (w : Val). ‵ (fat fullShare (tyInt w64) l₅ 0 w)) (ap only (p-fits .0)) refl $

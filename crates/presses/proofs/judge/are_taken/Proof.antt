@@ -13,7 +13,8 @@ use Rattle.slices.proofs.Tails.{tail-is}
 use Rattle.house.specs.Layout.{recordOf}
 use Rattle.house.specs.WellFormed.{wellFormed}
 use Rattle.presses.specs.Choosing.{mayStand, dueAfter, isLegal, statesAfter, isTakenFrom}
-use Rattle.presses.proofs.Judging.{long, taken-end, taken-ill, taken-astray, taken-illegal, taken-on}
+use Rattle.house.proofs.Front.{well-long}
+use Rattle.presses.proofs.Judging.{taken-end, taken-ill, taken-astray, taken-illegal, taken-on}
 use Rattle.presses.proofs.judge.are_taken.Statement.{statement}
 use Rattle.presses.proofs.judge.are_taken.Tie as tie
 
@@ -43,7 +44,7 @@ well c = sym (judged (c .before)) ∙ not-false _ (c .if1 .left)
 there : (c : tie.Else1 Inv-loop μ-loop) → let p = c .before .before .before .before in p .loop .at + 21 ≤ length (p .before .before .args .records .now)
 there c =
     let p = c .before .before .before .before in
-    omega (arith, long (rest p) (well c), length-drop (p .loop .at) (p .before .before .args .records .now), p .loop .inv .0)
+    omega (arith, well-long (rest p) (well c), length-drop (p .loop .at) (p .before .before .args .records .now), p .loop .inv .0)
 
 found : (c : tie.After-read-record Inv-loop μ-loop) → c .read-record .result ≡ recordOf (rest (c .before .before .before .before .before .before))
 found c =

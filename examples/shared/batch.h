@@ -1,4 +1,4 @@
-/* The records of some frames, one after the other, as a panel's touch writer takes them. */
+/* The records of some frames, one after the other, as a panel's touch writer takes them and a label. */
 #ifndef BATCH_H
 #define BATCH_H
 
@@ -6,8 +6,17 @@
 
 enum { BATCH_MOST = 256 * KANGIRLO_RECORD_BYTES };
 
-/* What a contact does: six of the eight contactFlags. */
-enum batch_flags { LEAVE = 0x02, LIFT = 0x04, HOVER = 0x0A, LIFT_TO_HOVER = 0x0C, DOWN = 0x19, MOVE = 0x1A };
+/* What a contact does: the eight contactFlags. */
+enum batch_flags {
+	LEAVE = 0x02,
+	LIFT = 0x04,
+	HOVER = 0x0A,
+	LIFT_TO_HOVER = 0x0C,
+	DOWN = 0x19,
+	MOVE = 0x1A,
+	LEAVE_CANCELLED = 0x22,
+	LIFT_CANCELLED = 0x24
+};
 
 struct batch {
 	size_t length;

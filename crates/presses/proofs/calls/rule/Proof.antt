@@ -1,19 +1,19 @@
--- `presses::turn::rule` meets its contract: each test picks a case.
+-- `presses::calls::rule` meets its contract: each test picks a case.
 -- Assumes nothing.
 use mathlib.Core.Path.{sym, _∙_}
 use borrow.Author.Tests.{le-leb, lt-leb}
 use borrow.Author.Needs.{needs}
-use Rattle.presses.proofs.turn.rule.Statement.{statement}
-use Rattle.presses.proofs.turn.rule.Tie as tie
+use Rattle.presses.proofs.calls.rule.Statement.{statement}
+use Rattle.presses.proofs.calls.rule.Tie as tie
 
 are-taken-requires : tie.Need-are-taken-requires
 are-taken-requires c κs = search needs
 
 returns : tie.Need-returns
-returns c = rw (sym (c .before .before .before .are-taken .ensures) ∙ c .before .before .if1 .taken, le-leb _ _ (c .if2 .taken))
+returns c = rw (sym (c .before .before .are-taken .ensures) ∙ c .before .if1 .taken, le-leb _ _ (c .if2 .taken))
 
 returns-2 : tie.Need-returns-2
-returns-2 c = rw (sym (c .before .before .before .are-taken .ensures) ∙ c .before .before .if1 .taken, lt-leb _ _ (c .if2 .left))
+returns-2 c = rw (sym (c .before .before .are-taken .ensures) ∙ c .before .if1 .taken, lt-leb _ _ (c .if2 .left))
 
 returns-3 : tie.Need-returns-3
 returns-3 c = rw (sym (c .before .are-taken .ensures) ∙ c .if1 .left)

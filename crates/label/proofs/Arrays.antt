@@ -1,4 +1,4 @@
--- An array of 256 numbers of a width, in a local and behind a `&mut`. It says nothing of the crate, and can be copied as it stands.
+-- An array of 256 numbers of a width, in a local and behind a `&mut`. It says nothing of the crate.
 --     lie, rise        the cell of an array is the array in memory, and back, where its value is known too
 --     opens, shuts     own (the `&κ mut [_; 256]` ((b, o), γ, xs)) ∗ [κ]_q  ⊢ ⇛ the cell, to be read, and what shuts it again;  and back
 -- Assumes `Given`.

@@ -1,10 +1,15 @@
 /* Makes up frames that continue a history: mostly what a client may do with the contacts as they are, and now and then what it
- * may not (01, "Contact states"). */
+ * may not (01, "Contact states"). While frames are ignored, most are such as the set of ids decides that is kept then (02, "Hovering hands
+ * after a cancel"). */
 #include "frames.h"
 
-enum { NO_ID = 256 };
+/* A few ids, so that one that has just joined the set or left it is soon used again. */
+enum { NO_ID = 256, FEW = 4 };
 
 static const uint8_t listed[] = { 0x0A, 0x19, 0x1A, 0x0C, 0x04, 0x24, 0x02, 0x22 };
+
+/* The flags that make an id leave the set, and those that do not. */
+static const uint8_t leaving[] = { 0x02, 0x22, 0x04, 0x24 }, staying[] = { 0x0A, 0x19, 0x1A, 0x0C };
 
 /* A frame that is being made: the ids it has, and how many contacts will be active after it. */
 struct draft {
@@ -149,7 +154,15 @@ static void append_to_limit(struct draft *draft)
 	}
 }
 
-/* While frames are ignored: one that opens, or one that almost does. */
+/* The contacts of a frame, as a rule. */
+static void append_usual(struct draft *draft, unsigned count)
+{
+	append_some(draft, count);
+	if (random_chance(draft->random, 30))
+		append_to_limit(draft);
+}
+
+/* While frames are ignored: one that opens by 0x19 alone, or one that almost does. */
 static void turn_down(struct draft *draft)
 {
 	struct frame *frame = draft->frame;
@@ -162,6 +175,107 @@ static void turn_down(struct draft *draft)
 		frame->contact[i].flags = 0x19;
 	if (frame->count > 0 && random_chance(draft->random, 150))
 		frame->contact[random_below(draft->random, frame->count)].flags = RANDOM_OF(draft->random, listed);
+}
+
+/* An id that is not yet in the frame: one in the set, or one of the client's that is not. */
+static unsigned pick_by_set(struct draft *draft, bool held)
+{
+	const struct habits *habits = draft->habits;
+	const unsigned first = habits->high ? 256 - habits->pool : 0;
+	const unsigned start = first + random_below(draft->random, random_chance(draft->random, 700) ? FEW : 256);
+
+	for (unsigned i = 0; i < 256; i++) {
+		const unsigned id = (start + i) % 256;
+
+		if (draft->used[id] || !draft->twin->held[id] == held)
+			continue;
+		if (held || (id >= first && id < first + habits->pool))
+			return id;
+	}
+	return NO_ID;
+}
+
+/* Appends a contact of an id in the set or outside it, if there is one. */
+static void append_by_set(struct draft *draft, bool held, uint32_t flags)
+{
+	const unsigned id = pick_by_set(draft, held);
+	struct wire_contact *contact = &draft->frame->contact[draft->frame->count];
+
+	if (id == NO_ID || draft->frame->count == FRAME_CONTACTS_MOST)
+		return;
+	frames_stray(draft->random, draft->habits, contact);
+	contact->id = (uint8_t)id;
+	contact->flags = flags;
+	draft->frame->count++;
+	draft->used[id] = true;
+	draft->active++;
+}
+
+/* Lists a contact of the frame once more, with flags of its own. */
+static void append_again(struct draft *draft, uint32_t flags)
+{
+	struct frame *frame = draft->frame;
+
+	if (frame->count == 0 || frame->count == FRAME_CONTACTS_MOST)
+		return;
+	frame->contact[frame->count] = frame->contact[random_below(draft->random, frame->count)];
+	frame->contact[frame->count++].flags = flags;
+}
+
+static uint32_t hover_or_down(struct random *random)
+{
+	return random_chance(random, 700) ? 0x0A : 0x19;
+}
+
+/* Contacts that hover, or that hover and are pressed, of ids outside the set: such a frame opens. With one of an id in the set, hovering or
+ * pressed, it almost does; with an id twice it opens and is cancelled. */
+static void hover(struct draft *draft, unsigned count)
+{
+	struct random *random = draft->random;
+	const unsigned most = draft->twin->most, limit = most + random_chance(random, 50);
+
+	while (count-- > 0 && (draft->active < limit || most == 0))
+		append_by_set(draft, false, hover_or_down(random));
+	if (draft->frame->count == 0 || random_chance(random, 250))
+		append_by_set(draft, true, hover_or_down(random));
+	if (random_chance(random, 100))
+		append_again(draft, hover_or_down(random));
+	if (draft->frame->count > 0 && random_chance(random, 50))
+		draft->frame->contact[random_below(random, draft->frame->count)].flags = RANDOM_OF(random, listed);
+}
+
+static uint32_t leave_or_stay(struct random *random)
+{
+	return random_chance(random, 650) ? RANDOM_OF(random, leaving) : RANDOM_OF(random, staying);
+}
+
+/* Contacts most of which are of ids in the set, and leave it: some are listed again behind that, with other flags. */
+static void leave(struct draft *draft, unsigned count)
+{
+	struct random *random = draft->random;
+
+	for (unsigned i = 0; i < 1 + count; i++) {
+		const bool held = !random_chance(random, 200);
+
+		append_by_set(draft, held, leave_or_stay(random));
+	}
+	while (random_chance(random, 300))
+		append_again(draft, leave_or_stay(random));
+}
+
+/* The contacts of a frame while frames are ignored. */
+static void append_ignored(struct draft *draft, unsigned count)
+{
+	const unsigned kind = random_below(draft->random, 1000);
+
+	if (kind < 350) {
+		hover(draft, count);
+	} else if (kind < 700) {
+		leave(draft, count);
+	} else {
+		append_usual(draft, count);
+		turn_down(draft);
+	}
 }
 
 /* Lifts a contact away from where it is stored. */
@@ -198,10 +312,7 @@ static void spoil(struct draft *draft)
 		contact->id = (uint8_t)random_below(random, 256);
 		break;
 	default:
-		if (frame->count < FRAME_CONTACTS_MOST) {
-			frame->contact[frame->count] = *contact;
-			frame->count++;
-		}
+		append_again(draft, random_chance(random, 500) ? RANDOM_OF(random, listed) : contact->flags);
 	}
 }
 
@@ -220,11 +331,10 @@ void frames_next(struct random *random, const struct habits *habits, const struc
 
 	frame->count = 0;
 	frame->offset = random_chance(random, 300) ? frames_edge(random, &wire_u8) : random_below(random, 20000);
-	append_some(&draft, choose_count(random, habits));
-	if (random_chance(random, 30))
-		append_to_limit(&draft);
 	if (twin->ignoring)
-		turn_down(&draft);
+		append_ignored(&draft, choose_count(random, habits));
+	else
+		append_usual(&draft, choose_count(random, habits));
 	if (random_chance(random, habits->spoil))
 		spoil(&draft);
 }

@@ -3,6 +3,9 @@
  * A receiver follows what is written, so that each message can go on from where the history stands. Most messages are what a
  * client may send; between them stand damaged ones, and ones at both sides of every limit.
  *
+ * While frames are ignored, the next one opens or almost does, by 0x19 alone or by contacts that hover, with ids just inside the set that
+ * is kept then or just outside it, or it makes ids of the set leave; and dismissals come twice as often.
+ *
  * Once its first frame is taken, one client in four never pads an integer; the others do so in one message of ten up to nine of ten, and
  * before that frame all do so in every other message. In such a message a random choice of the integers, from a few to all, takes more
  * bytes than it needs, by one byte or up to the most that there are, and a random choice of the zeros that have a sign is minus zero.
@@ -176,6 +179,7 @@ static void make_message(struct history *history, struct wire *wire, bool damage
 {
 	struct random *random = &history->random;
 	const bool ready = history->twin.ready;
+	const unsigned dismissals = history->twin.ignoring ? 200 : 100;
 	const unsigned kind = random_below(random, 1000);
 	const enum flaw flaw = damaged && random_chance(random, 400) ? 1 + random_below(random, FLAWS - 1) : SOUND;
 
@@ -183,9 +187,9 @@ static void make_message(struct history *history, struct wire *wire, bool damage
 		make_ready(history, wire);
 	else if (kind < (ready ? 20 : 800))
 		damage_stray(random, wire);
-	else if (kind < (ready ? 120 : 870))
+	else if (kind < (ready ? 20 + dismissals : 870))
 		wire_dismiss(wire, history_dismissed(history));
-	else if (kind < (ready ? 130 : 880))
+	else if (kind < (ready ? 30 + dismissals : 880))
 		make_longest(history, wire);
 	else
 		make_touch(history, wire, flaw);

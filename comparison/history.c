@@ -104,12 +104,18 @@ void history_filler(struct history *history, size_t left, struct frame *frame)
 	frame->offset = wire_greatest(&wire_u8, bytes - 1) - random_below(&history->random, 8);
 }
 
+/* Whether a dismissal changes something: while frames are ignored the set, and otherwise a contact. */
+static bool is_worth_dismissing(const struct twin *twin, unsigned id)
+{
+	return twin->ignoring ? twin->held[id] : twin->state[id] == TWIN_HOVERING;
+}
+
 uint8_t history_dismissed(struct history *history)
 {
 	unsigned id = random_below(&history->random, 256);
 
 	if (random_chance(&history->random, 700))
-		for (unsigned i = 0; i < 256 && history->twin.state[id] != TWIN_HOVERING; i++)
+		for (unsigned i = 0; i < 256 && !is_worth_dismissing(&history->twin, id); i++)
 			id = (id + 1) % 256;
 	return (uint8_t)id;
 }

@@ -37,7 +37,7 @@ void history_frame(struct history *history, const struct twin *ahead, bool first
 /* A frame of no contacts, for the rest of some bytes. It leaves none of them, or enough for another. */
 void history_filler(struct history *history, size_t left, struct frame *frame);
 
-/* A contact to dismiss: for the most part one that hovers, if there is one. */
+/* A contact to dismiss: for the most part one that hovers, if there is one, or while frames are ignored one in the set. */
 uint8_t history_dismissed(struct history *history);
 
 #endif

@@ -78,7 +78,7 @@ static const struct rule rules[] = {
 	[0x02] = { IN(TWIN_HOVERING), TWIN_OUT, false },
 	[0x22] = { IN(TWIN_HOVERING), TWIN_OUT, false },
 };
-enum { RULES = sizeof rules / sizeof rules[0], DOWN = 0x19 };
+enum { RULES = sizeof rules / sizeof rules[0], HOVER = 0x0A, DOWN = 0x19 };
 
 /* Reading. What is left of the message stands from at to end. A reader answers its refusal, and moves at past the field. Each reader
  * reads both ways: strict refuses what is not the shortest form, and all else is the same. */
@@ -355,12 +355,31 @@ static bool conforms(const struct twin *twin, const struct contact *contact, uns
 	return active <= twin->most;
 }
 
-static bool opens(const struct contact *contact, unsigned count)
+/* 02, "Hovering hands after a cancel": "all are 0x19, or all are 0x19 or 0x0A with no id in the set", of those that are pressed too. */
+static bool opens(const struct twin *twin, const struct contact *contact, unsigned count)
 {
-	for (unsigned i = 0; i < count; i++)
-		if (contact[i].flags != DOWN)
+	bool pressed = true, clear = true;
+
+	for (unsigned i = 0; i < count; i++, contact++) {
+		if (contact->flags != DOWN && contact->flags != HOVER)
 			return false;
-	return count > 0;
+		pressed = pressed && contact->flags == DOWN;
+		clear = clear && !twin->held[contact->id];
+	}
+	return count > 0 && (pressed || clear);
+}
+
+static void empty(struct twin *twin)
+{
+	memset(twin->held, 0, sizeof twin->held);
+}
+
+/* 02: the ids of an ignored or offending frame join the set, and those that it lists last with 0x02, 0x22, 0x04 or 0x24 leave: the flags
+ * that lead out of range. What is said of an id first is overruled by what is said of it last. */
+static void hold(struct twin *twin, const struct contact *contact, unsigned count)
+{
+	for (unsigned i = 0; i < count; i++, contact++)
+		twin->held[contact->id] = rules[contact->flags].to != TWIN_OUT;
 }
 
 static size_t inject(struct twin *twin, const struct frame *frame, const struct contact *contact, uint8_t *at)
@@ -380,18 +399,35 @@ static size_t inject(struct twin *twin, const struct frame *frame, const struct 
 	return 1 + (size_t)frame->count;
 }
 
-static size_t cancel(struct twin *twin, uint8_t *at)
+/* The set is made anew: the ids that were active, and what the offending frame does to them and with its own. */
+static size_t cancel(struct twin *twin, const struct contact *contact, unsigned count, uint8_t *at)
 {
 	const size_t records = twin->active;
 
+	empty(twin);
 	for (unsigned id = 0; twin->active > 0; id++) {
 		if (twin->state[id] == TWIN_OUT)
 			continue;
+		twin->held[id] = 1;
 		put_out(twin, at, CANCEL, (uint8_t)id, twin->state[id] == TWIN_ENGAGED ? 0x24 : 0x22);
 		at += TWIN_RECORD_BYTES;
 	}
+	hold(twin, contact, count);
 	twin->ignoring = 1;
 	return records;
+}
+
+/* Whether a frame is ignored. If it opens, the set is emptied before the frame is judged. */
+static bool ignores(struct twin *twin, const struct contact *contact, unsigned count)
+{
+	if (!twin->ignoring)
+		return false;
+	if (opens(twin, contact, count)) {
+		empty(twin);
+		return false;
+	}
+	hold(twin, contact, count);
+	return true;
 }
 
 static struct twin_answer run_frames(struct twin *twin, const struct touch *touch, uint8_t *output)
@@ -403,13 +439,13 @@ static struct twin_answer run_frames(struct twin *twin, const struct touch *touc
 		const struct frame *frame = &touch->frame[i];
 		uint8_t *at = output + answer.records * TWIN_RECORD_BYTES;
 
-		if (twin->ignoring && !opens(contact, frame->count)) {
+		if (ignores(twin, contact, frame->count)) {
 			answer.ignored++;
 		} else if (conforms(twin, contact, frame->count)) {
 			answer.records += inject(twin, frame, contact, at);
 			answer.injected++;
 		} else {
-			answer.records += cancel(twin, at);
+			answer.records += cancel(twin, contact, frame->count, at);
 			answer.cancelled++;
 		}
 		contact += frame->count;
@@ -465,12 +501,13 @@ static struct twin_answer receive_dismiss(struct twin *twin, struct source in, u
 		return refused(TRUNCATED);
 	if (in.at != in.end)
 		return refused(TRAILING);
-	if (twin->state[id] != TWIN_HOVERING)
-		return answer;
-	if (room < TWIN_RECORD_BYTES)
-		return refused(NO_ROOM);
-	put_out(twin, output, DISMISSAL, id, 0x02);
-	answer.records = 1;
+	if (twin->state[id] == TWIN_HOVERING) {
+		if (room < TWIN_RECORD_BYTES)
+			return refused(NO_ROOM);
+		put_out(twin, output, DISMISSAL, id, 0x02);
+		answer.records = 1;
+	}
+	twin->held[id] = 0;
 	return answer;
 }
 

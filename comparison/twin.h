@@ -25,6 +25,7 @@ struct twin {
 	uint8_t state[256];
 	int32_t x[256];
 	int32_t y[256];
+	uint8_t held[256];      /* while ignoring: whether an id is in the set that hovering contacts must not be in to open; else 0 */
 };
 
 struct twin_answer {

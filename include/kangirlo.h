@@ -64,7 +64,12 @@ struct kangirlo_settings {
 	uint16_t most;          /* contacts that may be active at once */
 };
 
-/* One connection's receiver. Keep it and lend it; the fields are for looking at. A fresh one is all zeros. */
+/* One connection's receiver. Keep it and lend it; the fields are for looking at. A fresh one is all zeros.
+ *
+ * After a cancel frames are ignored until one opens: one that has a contact and of which all are 0x19, or all are 0x19 or 0x0A and no id is
+ * held. Held are the ids that were active at the cancel, those of the frame that was cancelled, and those of each frame ignored since; an
+ * id is let go by such a frame that lists it last with 0x02, 0x22, 0x04 or 0x24, and by a dismissal. The frame that opens lets go of all,
+ * and is then judged as any other: if it is cancelled, its own ids are held. */
 struct kangirlo_receiver {
 	uint8_t ready;          /* not 0: has accepted a client ready */
 	uint8_t begun;          /* not 0: has accepted a touch message with a frame since */
@@ -73,6 +78,7 @@ struct kangirlo_receiver {
 	uint8_t states[256];    /* by contact id: 0 out of range, 1 hovering, 2 engaged */
 	int32_t xs[256];
 	int32_t ys[256];
+	uint8_t held[256];      /* by contact id: not 0: held, while frames are ignored; all 0 otherwise */
 };
 
 /* One connection's panel. Keep it and lend it; the fields are for looking at. A fresh one is all zeros. Once its client ready has
@@ -118,7 +124,7 @@ struct kangirlo_batch {
 /* How many numbers so many places for answers are. */
 #define KANGIRLO_BATCH_NUMBERS(places) (6 * (size_t)(places))
 
-/* A receiver in parts: its marks, which go by value, beside its three arrays, which are lent. What becomes of a message or a batch then
+/* A receiver in parts: its marks, which go by value, beside its four arrays, which are lent. What becomes of a message or a batch then
  * is the marks after it and the answer. */
 struct kangirlo_marks {
 	uint8_t ready;
@@ -150,7 +156,7 @@ struct kangirlo_written {
 	size_t bytes;
 };
 
-/* A panel in parts, likewise: what becomes of a message that arrived, and of a call that writes. */
+/* A panel in parts, likewise, of three arrays: what becomes of a message that arrived, and of a call that writes. */
 struct kangirlo_panel_marks {
 	uint8_t greeted;
 	uint8_t ready;
@@ -243,13 +249,14 @@ struct kangirlo_batch kangirlo_receive_all(struct kangirlo_receiver *receiver, c
                                            struct kangirlo_batch_answer *answers, size_t numbers, uint8_t *output,
                                            size_t output_length);
 
-/* The same two calls for a receiver in parts, whose contacts are not copied: they take less stack and fewer instructions. The arrays are of
- * 256 contacts. */
+/* The same two calls for a receiver in parts, whose contacts are not copied: they take less stack and fewer instructions. The four arrays
+ * are of 256 contacts, and are those of the receiver's fields of the same names. */
 struct kangirlo_turn kangirlo_receive_parts(struct kangirlo_marks marks, const uint8_t *message, size_t length, uint8_t *output,
-                                            size_t room, uint8_t *states, int32_t *xs, int32_t *ys);
+                                            size_t room, uint8_t *states, int32_t *xs, int32_t *ys, uint8_t *held);
 struct kangirlo_batch_turn kangirlo_receive_all_parts(struct kangirlo_marks marks, const uint8_t *buffer, size_t buffer_length,
                                                       struct kangirlo_batch_answer *answers, size_t numbers, uint8_t *output,
-                                                      size_t output_length, uint8_t *states, int32_t *xs, int32_t *ys);
+                                                      size_t output_length, uint8_t *states, int32_t *xs, int32_t *ys,
+                                                      uint8_t *held);
 
 /* .. and for a host that keeps a receiver: its own fields are lent. What they do is what kangirlo_receive and kangirlo_receive_all do. */
 static inline struct kangirlo_marks kangirlo_marks_of(const struct kangirlo_receiver *receiver)
@@ -275,7 +282,7 @@ static inline struct kangirlo_answer kangirlo_receive_direct(struct kangirlo_rec
                                                              uint8_t *output, size_t room)
 {
 	const struct kangirlo_turn turn = kangirlo_receive_parts(kangirlo_marks_of(receiver), message, length, output, room,
-	                                                         receiver->states, receiver->xs, receiver->ys);
+	                                                         receiver->states, receiver->xs, receiver->ys, receiver->held);
 
 	kangirlo_keep_marks(receiver, turn.marks);
 	return turn.answer;
@@ -287,7 +294,7 @@ static inline struct kangirlo_batch kangirlo_receive_all_direct(struct kangirlo_
 {
 	const struct kangirlo_batch_turn turn =
 		kangirlo_receive_all_parts(kangirlo_marks_of(receiver), buffer, buffer_length, answers, numbers, output, output_length,
-	                                   receiver->states, receiver->xs, receiver->ys);
+	                                   receiver->states, receiver->xs, receiver->ys, receiver->held);
 
 	kangirlo_keep_marks(receiver, turn.marks);
 	return turn.batch;
@@ -457,9 +464,10 @@ bool kangirlo_set_shown(struct kangirlo_button *buttons, size_t how_many, size_t
 #define KANGIRLO_ALIGN(type) _Alignof(type)
 #endif
 KANGIRLO_ASSERT(sizeof(struct kangirlo_settings) == 12 && KANGIRLO_ALIGN(struct kangirlo_settings) == 4);
-KANGIRLO_ASSERT(sizeof(struct kangirlo_receiver) == 2320 && KANGIRLO_ALIGN(struct kangirlo_receiver) == 4);
+KANGIRLO_ASSERT(sizeof(struct kangirlo_receiver) == 2576 && KANGIRLO_ALIGN(struct kangirlo_receiver) == 4);
 KANGIRLO_ASSERT(offsetof(struct kangirlo_receiver, settings) == 4 && offsetof(struct kangirlo_receiver, states) == 16);
 KANGIRLO_ASSERT(offsetof(struct kangirlo_receiver, xs) == 272 && offsetof(struct kangirlo_receiver, ys) == 1296);
+KANGIRLO_ASSERT(offsetof(struct kangirlo_receiver, held) == 2320);
 KANGIRLO_ASSERT(sizeof(struct kangirlo_panel) == 2320 && KANGIRLO_ALIGN(struct kangirlo_panel) == 4);
 KANGIRLO_ASSERT(offsetof(struct kangirlo_panel, begun) == 3 && offsetof(struct kangirlo_panel, settings) == 4);
 KANGIRLO_ASSERT(offsetof(struct kangirlo_panel, states) == 16);

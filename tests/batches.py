@@ -3,8 +3,9 @@
 from collections import Counter
 
 import corpus
+import eras
 from corpus import contact, dismiss, frame, touch
-from histories import History, all_lifted, without_padding
+from histories import History, all_lifted
 from make_bench import walk
 from reference import house, programs, receiver
 from reference.batch import Batch, receive_all
@@ -33,27 +34,12 @@ def one(flags, contact_id=1, x=5, y=6, time=0, offset=0):
 # Sending
 
 
-class Host:
-    """Entries for one fresh receiver, and what the reference makes of them.
-
-    'receiver' gets all of them; 'keeper' is what batches are chosen by, and gets no padded message until it is told
-    to follow, as in a History.
-    """
-
-    def __init__(self):
-        self.entries = []
-        self.receiver = receiver.Receiver()
-        self.keeper = receiver.Receiver()
-        self.following = False
-
-    def follow(self):
-        """From here on batches are chosen by the receiver that gets everything."""
-        self.keeper = self.receiver
-        self.following = True
+class Host(eras.Sender):
+    """Entries for one fresh receiver, and what the reference makes of them."""
 
     def seen(self, sent):
         """What the keeper gets of a batch: as many entries."""
-        return sent if self.following else [without_padding(message) for message in sent]
+        return [eras.seen(self.era, message) for message in sent]
 
     def bad(self, *payloads):
         """Entries too short for room and places."""
@@ -61,19 +47,25 @@ class Host:
         self.entries += payloads
 
     def send(self, sent, room=AMPLE, places=None, tail=b""):
-        """A batch of messages, with just as many places unless another number is given."""
+        """A batch of messages, with just as many places unless another number is given: its answer and the entries'."""
         places = len(sent) if places is None else places
-        payload = entry(room, places, corpus.joined(sent, tail))
-        self.entries.append(payload)
-        self.receiver, answer, fed = programs.batch_call(self.receiver, payload)
-        chosen_by = entry(room, places, corpus.joined(self.seen(sent), tail))
-        self.keeper, _, _ = programs.batch_call(self.keeper, chosen_by)
-        return answer, [each.refusal for each, _ in fed]
+        self.entries.append(entry(room, places, corpus.joined(sent, tail)))
+        answers = {}
+        for era, keeper in self.keepers.items():
+            payload = entry(room, places, corpus.joined([eras.seen(era, message) for message in sent], tail))
+            self.keepers[era], *answers[era] = programs.batch_call(keeper, payload)
+        answer, fed = answers[eras.TODAY]
+        return answer, [each for each, _ in fed]
 
     def fed(self, refusals, sent, **lent):
         """A batch whose entries' refusals are known beforehand."""
         answer, have = self.send(sent, **lent)
-        assert (answer.refusal, have) == (NONE, refusals), have
+        assert (answer.refusal, [each.refusal for each in have]) == (NONE, refusals), have
+
+    def answered(self, *steps, **lent):
+        """A batch of entries with the refusal and the frames injected, ignored and cancelled that each answers."""
+        answer, have = self.send([message for message, _ in steps], **lent)
+        assert (answer.refusal, [each[:4] for each in have]) == (NONE, [want for _, want in steps]), have
 
     def accepted(self, *sent, **lent):
         self.fed([NONE] * len(sent), sent, **lent)
@@ -100,7 +92,7 @@ class Host:
 def mixture(host, rng, ids, faults=0.15, play=walk):
     """A batch that is chosen by the receiver's state; room, list and end are mostly good."""
     history = History()
-    history.keeper, history.following = host.keeper, host.following
+    history.take_up(host)
     play(history, rng, ids, rng.choice((0, 1, 1, 2, 3, 5, 8, 12)), faults)
     sent = history.entries
     tail = corpus.cut_entry(dismiss(1)[: rng.randrange(8)]) if rng.random() < 0.05 else b""

@@ -319,6 +319,11 @@ def report_refusals(text, column=1):
         report(f"     {word:12} {count}")
 
 
+def report_counts(counts):
+    for name, count in sorted(counts.items()):
+        report(f"  {name:56} {count}")
+
+
 def cut_entry(payload, missing=1):
     """An entry whose last bytes are missing."""
     return (len(payload) + missing).to_bytes(2, "big") + payload

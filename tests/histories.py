@@ -3,7 +3,10 @@
 from collections import Counter
 
 import corpus
+import eras
+import hover_coverage
 from corpus import contact, frame, touch
+from hover_coverage import MOST_HELD
 from reference import house, messages, programs, receiver
 from reference.keeper import (
     ENGAGED,
@@ -15,7 +18,7 @@ from reference.keeper import (
     no_id_twice,
     positions_obey,
 )
-from reference.refusals import NOT_SHORTEST
+from reference.refusals import NONE
 
 IGNORING = "ignoring"
 STARTS = (OUT, HOVERING, ENGAGED)
@@ -31,15 +34,16 @@ class Coverage:
         self.highest_cancelled = -1
 
     def merge(self, other):
+        most_held = max(self.counts[MOST_HELD], other.counts[MOST_HELD])
         self.counts += other.counts
+        self.counts[MOST_HELD] = most_held
         for length, runs in other.runs.items():
             self.runs[length] |= runs
         self.most_cancelled = max(self.most_cancelled, other.most_cancelled)
         self.highest_cancelled = max(self.highest_cancelled, other.highest_cancelled)
 
     def report(self):
-        for name, count in sorted(self.counts.items()):
-            corpus.report(f"  {name:34} {count}")
+        corpus.report_counts(self.counts)
         corpus.report(f"  most contacts in one cancel {self.most_cancelled}, highest id {self.highest_cancelled}")
         for length, runs in self.runs.items():
             judged = sum(run[0] in STARTS for run in runs)
@@ -48,45 +52,34 @@ class Coverage:
             corpus.report(f"  {word} of flags while ignoring        {len(runs) - judged} of {8 ** length}")
 
 
-def without_padding(message):
-    """A message as it is, but an empty one, which is always refused, for one that a strict reading refuses by 6."""
-    refusal = messages.plain_strictly(message, bytearray(programs.LENT_TO_READERS)).refusal
-    return b"" if refusal == NOT_SHORTEST else message
-
-
-class History:
-    """Entries for one fresh receiver, and what the reference makes of them.
-
-    'receiver' gets all of them. 'keeper' is what frames are chosen by. It gets no
-    padded message until it is told to follow: the histories were made up when
-    those were refused, and are to stay as they are.
-    """
+class History(eras.Sender):
+    """Entries for one fresh receiver, and what the reference makes of them."""
 
     def __init__(self):
-        self.entries = []
-        self.receiver = receiver.Receiver()
-        self.keeper = receiver.Receiver()
-        self.following = False
+        super().__init__()
         self.coverage = Coverage()
         self.tracks = {}  # id: its flags in consecutive frames, the first with what it started from
-
-    def follow(self):
-        """From here on frames are chosen by the receiver that gets everything."""
-        self.keeper = self.receiver
-        self.following = True
 
     def send(self, message):
         self.entries.append(message)
         before = self.receiver
-        self.receiver, answer = receiver.receive(before, message, bytearray(programs.LENT_TO_READERS))
-        chosen_by = message if self.following else without_padding(message)
-        self.keeper, _ = receiver.receive(self.keeper, chosen_by, bytearray(programs.LENT_TO_READERS))
+        answer = self.feed(message)
+        if answer.refusal == 0:
+            hover_coverage.watch(self.coverage.counts, before, message)
         if answer.refusal == 0 and message[0] == messages.TOUCH:
             self.watch_frames(before, messages.read_touch(message).frames)
         elif answer.refusal == 0 and message[0] == messages.DISMISS:
             self.coverage.counts[f"dismissed while {before.place(message[6]).state}"] += 1
             self.tracks = {}
         return answer
+
+    def feed(self, message):
+        """Today's answer; the receivers of all times get the message."""
+        answers = {}
+        for era, keeper in self.keepers.items():
+            output = bytearray(programs.LENT_TO_READERS)
+            self.keepers[era], answers[era] = receiver.receive(keeper, eras.seen(era, message), output)
+        return answers[eras.TODAY]
 
     def send_all(self, sent):
         for message in sent:
@@ -105,8 +98,8 @@ class History:
     def watch_verdict(self, keeper, one, verdict):
         counts = self.coverage.counts
         mode = "running" if keeper.running else IGNORING
-        kind = "empty frame" if not one.contacts else "opening frame" if receiver.opening(one) else "other frame"
-        counts[f"{mode}: {kind} {verdict}"] += 1
+        word = "empty" if not one.contacts else "opening" if receiver.opening(one, keeper.held) else "other"
+        counts[f"{mode}: {word} frame {verdict}"] += 1
         if verdict == receiver.CANCELLED and keeper.active:
             self.coverage.most_cancelled = max(self.coverage.most_cancelled, len(keeper.active))
             self.coverage.highest_cancelled = max(self.coverage.highest_cancelled, *keeper.active, -1)
@@ -140,6 +133,27 @@ def fault(keeper, one):
     if not positions_obey(keeper, one):
         return "a position"
     return "too many active"
+
+
+# Sending what is answered as said beforehand
+
+
+def answered(history, message, refusal=NONE, injected=0, ignored=0, cancelled=0):
+    answer = history.send(message)
+    assert answer[:4] == (refusal, injected, ignored, cancelled), (message.hex(), answer)
+
+
+def injected(history, *sent):
+    """Messages of one frame each."""
+    for message in sent:
+        answered(history, message, injected=1)
+
+
+def rest(history):
+    """A running receiver without an active contact."""
+    if not history.keeper.running:
+        injected(history, touch(0, [frame(contact(0, 0x19))]))
+    injected(history, touch(0, [all_lifted(history.keeper)]))
 
 
 # Choosing contacts and frames
@@ -227,7 +241,7 @@ def crowd(rng, keeper, ids):
 
 
 def opening(rng, keeper, ids, conforms=True):
-    """An opening frame; one that does not conform has an id twice or too many."""
+    """A frame that opens by presses; one that does not conform has an id twice or too many."""
     most = min(keeper.max_touch_contacts, len(ids), 62)
     count = rng.randint(1, max(1, min(most, 5)))
     chosen = rng.sample(ids, min(count, len(ids)))
@@ -239,7 +253,7 @@ def opening(rng, keeper, ids, conforms=True):
 
 
 def unopening(rng, keeper, ids):
-    """Lifts, updates, arrivals by hovering, mixtures: nothing of it opens."""
+    """Lifts, updates, arrivals by hovering, mixtures: nothing of it opens where presses alone do."""
     chosen = rng.sample(ids, rng.randint(0, min(3, len(ids))))
     contacts = [placed(rng, keeper, each, rng.choice(house.FLAGS)) for each in chosen]
     if contacts and rng.random() < 0.5:

@@ -11,6 +11,9 @@ import random
 
 import batches
 import corpus
+import eras
+import hover_coverage
+import hover_play
 import make_bench
 import padded_play
 from batches import AMPLE, HIGHEST_PLACES, HIGHEST_ROOM, MOST_PLACES, MOST_ROOM, Host, mixture, one, room_for
@@ -45,8 +48,8 @@ def unready(host):
     """All that a receiver refuses that is not ready, in batches of 40."""
     faulty = list(make_bench.before_ready(READY))
     for at in range(0, len(faulty), 40):
-        _, refusals = host.send(faulty[at : at + 40])
-        assert 0 not in refusals and not host.receiver.ready
+        _, answers = host.send(faulty[at : at + 40])
+        assert all(each.refusal for each in answers) and not host.receiver.ready
 
 
 def becoming_ready(host, ready):
@@ -294,7 +297,7 @@ def padded_one(flags, contact_id=1, x=5, y=6, more=1):
 
 def padded_entries(host, rng):
     """Fed like the others: what they write is as long as if they were not padded, and so is the room that it needs."""
-    host.follow()
+    host.era = eras.PRESSED
     host.rest()
     for more in padded_play.PADDINGS:
         down, update, lift = (padded_one(flags, more=more) for flags in (0x19, 0x1A, 0x04))
@@ -324,6 +327,112 @@ def padded_entries(host, rng):
         mixture(host, rng, IDS, play=padded_play.walk)
 
 
+# Hovering after a cancel (request #106)
+
+INJECTED, IGNORED, CANCELLED = (0, 1, 0, 0), (0, 0, 1, 0), (0, 0, 0, 1)
+NOTHING, NO_ROOM = (0, 0, 0, 0), (13, 0, 0, 0)
+HAND, NEW, ODD = hover_play.ONE, hover_play.NEW, hover_play.ODD
+RETURNS, COMES, GOES = one(0x0A, HAND), one(0x0A, NEW), one(0x02, HAND)
+
+
+def several(*frames):
+    return touch(0, frames)
+
+
+def held(host):
+    """A hand hovers and is cancelled: its id and that of the odd update are held."""
+    host.rest()
+    host.answered((RETURNS, INJECTED), (one(0x1A, ODD), CANCELLED))
+    assert host.receiver.held == {HAND, ODD}
+
+
+def no_room_to_open(host):
+    """A frame that finds no room has not opened, and what came before it in its message did not happen either."""
+    gone_and_new = several(hover_play.lists(0x02, HAND), hover_play.hover(NEW))
+    new_and_gone = several(hover_play.lists(0x1A, NEW), hover_play.lists(0x22, HAND), hover_play.hover(HAND))
+    for room in (0, 1, room_for(2) - 1):
+        held(host)
+        host.answered((COMES, NO_ROOM), (RETURNS, IGNORED), (COMES, NO_ROOM), (dismiss(NEW), NOTHING), room=room)
+        host.answered((gone_and_new, NO_ROOM), (RETURNS, IGNORED), room=room)
+        host.answered((new_and_gone, NO_ROOM), (RETURNS, IGNORED), room=room)
+        host.refused([GOES], places=0)
+        host.refused([dismiss(HAND), GOES], tail=b"\0")
+        host.answered((RETURNS, IGNORED), room=room)
+        assert host.receiver.held == {HAND, ODD}
+        host.answered((dismiss(HAND), NOTHING), (RETURNS, NO_ROOM), (RETURNS, NO_ROOM), room=room)
+        host.answered((RETURNS, INJECTED), (COMES, NO_ROOM), room=room_for(2))
+        held(host)
+        host.answered((GOES, IGNORED), (RETURNS, NO_ROOM), room=room)
+        host.answered((RETURNS, INJECTED), room=room_for(2))
+        held(host)
+        host.answered((COMES, INJECTED), room=room_for(2))
+    held(host)
+    host.answered((gone_and_new, (0, 1, 1, 0)), (new_and_gone, NO_ROOM), room=room_for(2))
+    # The cancel of a hand needs room for one record, and what opens behind it for two.
+    host.rest()
+    host.answered((RETURNS, INJECTED))
+    cancel_and_open = several(hover_play.OFFENDING, hover_play.lists(0x02, HAND), hover_play.hover(HAND))
+    host.answered((cancel_and_open, NO_ROOM), (one(0x1A, ODD), CANCELLED), room=room_for(2))
+    host.answered((RETURNS, IGNORED), (GOES, IGNORED), (RETURNS, INJECTED), (one(0x1A, ODD), NO_ROOM), room=room_for(2))
+    host.answered((cancel_and_open, (0, 1, 1, 1)), (one(0x1A, ODD), NO_ROOM), room=room_for(3))
+
+
+def opened_without_room(host):
+    """A frame that opens and is cancelled writes nothing: it needs no room, and only its own ids are held then."""
+    for flags in ((0x0A, 0x0A), (0x19, 0x19), (0x0A, 0x19), (0x19, 0x0A)):
+        held(host)
+        twice = several(hover_play.in_order(20, *flags))
+        host.answered((twice, CANCELLED), (one(0x0A, 20), IGNORED), (RETURNS, NO_ROOM), room=0)
+        assert host.receiver.held == {20}
+        host.answered((one(0x19, 20), INJECTED) if flags == (0x0A, 0x0A) else (RETURNS, INJECTED), room=room_for(2))
+
+
+def held_one_by_one(host):
+    """The set lasts from one batch to the next."""
+    held(host)
+    for sent, want in (
+        (COMES, INJECTED),
+        (one(0x1A, ODD), CANCELLED),
+        (COMES, IGNORED),
+        (one(0x0C, NEW), IGNORED),
+        (COMES, IGNORED),
+        (several(hover_play.in_order(NEW, 0x04, 0x1A)), IGNORED),
+        (COMES, IGNORED),
+        (several(hover_play.in_order(NEW, 0x1A, 0x04)), IGNORED),
+        (several(hover_play.hover(NEW, ODD)), IGNORED),
+        (one(0x24, NEW), IGNORED),
+        (several(hover_play.joined(hover_play.hover(NEW), hover_play.press(ODD))), IGNORED),
+        (several(), NOTHING),
+        (several(frame()), IGNORED),
+        (dismiss(NEW), NOTHING),
+        (COMES, INJECTED),
+    ):
+        host.answered((sent, want))
+
+
+def all_dismissed(host):
+    """Every id is held, and all but one are dismissed in one batch; then that one too."""
+    for last in (0, 77, 255):
+        held(host)
+        host.answered(*((several(hover_play.lists(0x1A, *group)), IGNORED) for group in hover_play.GROUPS), room=0)
+        others = [each for each in range(256) if each != last]
+        host.answered(*((one(0x0A, each), IGNORED) for each in (*others[:3], last, *others[-3:])), room=0)
+        host.answered(*((dismiss(each), NOTHING) for each in others), (one(0x0A, last), IGNORED), room=0)
+        host.answered((several(hover_play.hover(*others[:3], last)), IGNORED))
+        host.answered(*((dismiss(each), NOTHING) for each in others[:3]))
+        host.answered((one(0x0A, last), IGNORED), (several(hover_play.hover(*others[-MOST:])), INJECTED))
+
+
+def hovering_entries(host, rng):
+    host.era = eras.TODAY
+    no_room_to_open(host)
+    opened_without_room(host)
+    held_one_by_one(host)
+    all_dismissed(host)
+    for _ in range(70):
+        mixture(host, rng, IDS, faults=0.5, play=hover_play.walk)
+
+
 # Files
 
 
@@ -345,6 +454,7 @@ def main_batches():
     greatest_room(host)
     mixtures(host, rng, IDS, 130)
     padded_entries(host, random.Random(SEED + 4))
+    hovering_entries(host, random.Random(SEED + 5))
     return host
 
 
@@ -414,11 +524,13 @@ def more_inputs():
 
 def main():
     directory = corpus.output_directory()
-    stdin = main_batches().input(corpus.cut_entry(batches.entry(AMPLE, 1, entries.join([LIFT]))[:-1]))
+    host = main_batches()
+    stdin = host.input(corpus.cut_entry(batches.entry(AMPLE, 1, entries.join([LIFT]))[:-1]))
     texts = [programs.batch(stdin)]
     corpus.write_files(directory, {"stdin": stdin, "stdout": texts[0]})
     corpus.report(f"stdin {len(stdin)} bytes, stdout {len(texts[0])} bytes")
     batches.report(texts[0])
+    corpus.report_counts(hover_coverage.of_batches(host.entries))
     for name, data in more_inputs():
         texts.append(programs.batch(data))
         corpus.write_files(os.path.join(directory, "more"), {f"{name}.batch": data, f"{name}.stdout": texts[-1]})

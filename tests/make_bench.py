@@ -11,6 +11,8 @@ import os
 import random
 
 import corpus
+import eras
+import hover_play
 import padded_play
 from corpus import client_ready, contact, dismiss, frame, message, touch
 from histories import (
@@ -21,6 +23,7 @@ from histories import (
     all_lifted,
     approach,
     placed,
+    rest,
     some_frames,
 )
 from reference import entries, house, integers, programs, receiver
@@ -375,7 +378,20 @@ def main_history():
     walk(history, rng, IDS, 300, faults=0.03)
     padded_play.all_play(history)
     padded_play.walk(history, random.Random(SEED + 1), IDS, 250)
+    hovering(history, random.Random(SEED + 2))
     return history
+
+
+def hovering(history, rng):
+    """Frames chosen by today's rule of opening (request #106)."""
+    history.era = eras.TODAY
+    hover_play.hand_made(history)
+    hover_play.walk(history, rng, IDS, 400)
+    rest(history)
+    hover_play.hovering_panel(history, rng, IDS, 150)
+    # What was made up to be ignored may have opened since.
+    missed = [run for run in all_runs((IGNORING,), 3) if run not in history.coverage.runs[3]]
+    flag_runs(history, rng, missed, IDS, apart=False)
 
 
 OTHER_SETTINGS = (
@@ -427,10 +443,41 @@ PADDED_SETTINGS = (
 def padded_history(length, flags):
     """Padded from the first frame on."""
     history = History()
-    history.follow()
+    history.era = eras.PRESSED
     history.send(client_ready(flags, V101, 10))
     padded_play.first_frames(history, length, judged=flags != 2)
     padded_play.walk(history, random.Random(f"{SEED} {length} {flags}"), IDS, 40)
+    return history
+
+
+HOVER_SETTINGS = (
+    # maxTouchContacts, ready flags, what comes first, steps of random use
+    (0, 0, hover_play.none_allowed, 60),
+    (1, 1, None, 150),
+    (2, 2, None, 150),
+    (10, 3, hover_play.ids_twice, 150),
+    (256, 0, hover_play.all_hover, 80),
+)
+
+
+def hover_history(most, flags, begin, steps):
+    """Hovering frames open from the first cancel on."""
+    history, rng = History(), random.Random(f"{SEED} hover {most} {flags}")
+    history.era = eras.TODAY
+    history.send(client_ready(flags, V101, most))
+    if begin:
+        begin(history)
+    ids = list(range(256)) if most > 10 else IDS[: most + 3]
+    hover_play.walk(history, rng, ids, steps)
+    return history
+
+
+def hover_only_history(most):
+    """Nobody ever presses."""
+    history, rng = History(), random.Random(f"{SEED} hover only {most}")
+    history.era = eras.TODAY
+    history.send(client_ready(0, V101, most))
+    hover_play.hovering_panel(history, rng, IDS[: most + 2], 250)
     return history
 
 
@@ -448,6 +495,18 @@ def small_inputs():
     yield "never-ready", entries.join(before_ready(client_ready(0, V101, 10)))
     ready, *touches = (bytes.fromhex(text) for text in EXAMPLE)
     yield "longest-entries", entries.join([ready, *[bytes(entries.LONGEST_ENTRY)] * 2, *touches])
+
+
+def more_histories():
+    """Name and history."""
+    for settings in OTHER_SETTINGS:
+        yield "most{}-flags{}".format(*settings), other_history(*settings)
+    for settings in PADDED_SETTINGS:
+        yield "padded-offset{}-flags{}".format(*settings), padded_history(*settings)
+    for settings in HOVER_SETTINGS:
+        yield "hover-most{}-flags{}".format(*settings), hover_history(*settings)
+    for most in (3, 10):
+        yield f"hover-only-most{most}", hover_only_history(most)
 
 
 def write_more(directory, name, stdin):
@@ -471,14 +530,9 @@ def main():
     total, texts = Coverage(), [stdout]
     total.merge(history.coverage)
     more = os.path.join(directory, "more")
-    for settings in OTHER_SETTINGS:
-        other = other_history(*settings)
+    for name, other in more_histories():
         total.merge(other.coverage)
-        texts.append(write_more(more, "most{}-flags{}".format(*settings), corpus.joined(other.entries)))
-    for settings in PADDED_SETTINGS:
-        other = padded_history(*settings)
-        total.merge(other.coverage)
-        texts.append(write_more(more, "padded-offset{}-flags{}".format(*settings), corpus.joined(other.entries)))
+        texts.append(write_more(more, name, corpus.joined(other.entries)))
     for name, data in small_inputs():
         texts.append(write_more(more, name, data))
     corpus.report(f"all {len(texts)} files")

@@ -4,6 +4,7 @@ import itertools
 import random
 
 import corpus
+import eras
 import labels
 import make_bench
 from corpus import contact, frame, head_record
@@ -676,7 +677,7 @@ def received(desk, rng, most, steps, faults):
     make_bench.walk(history, rng, make_bench.IDS, steps, faults)
     desk.new(*QUARTERS)
     waiting = b""
-    for _, records, _ in programs.received(corpus.joined(history.entries)):
+    for _, records, _ in programs.received(corpus.joined(history.entries), eras.PressedReceiver()):
         waiting += records
         if waiting and rng.random() < 0.6:
             assert desk.call(choose(waiting)).startswith("0 ")

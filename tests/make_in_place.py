@@ -6,9 +6,11 @@ The program feeds the file to one receiver by each of two calls, so its lines st
 import random
 
 import corpus
+import eras
 import make_bench
+import hover_play
 import padded_play
-from histories import History
+from histories import History, rest
 from reference import programs
 
 SEED = 20260207
@@ -22,11 +24,15 @@ def history():
     make_bench.example(sent)
     make_bench.dismissals(sent, rng)
     make_bench.walk(sent, rng, make_bench.IDS, 250)
-    sent.follow()
-    padded_play.rest(sent)
+    sent.era = eras.PRESSED
+    rest(sent)
     padded_play.strokes(sent)
     padded_play.faults_between(sent)
     padded_play.walk(sent, random.Random(SEED + 1), make_bench.IDS, 60)
+    sent.era = eras.TODAY
+    hover_play.hovering_hands(sent)
+    hover_play.dismissals(sent)
+    hover_play.walk(sent, random.Random(SEED + 2), make_bench.IDS, 60)
     return sent
 
 

@@ -4,8 +4,9 @@ What each message must answer is said beforehand, but for the random ones.
 """
 
 import corpus
+import eras
 from corpus import all_longer, contact, dismiss, frame, integer_field, longer, minus_zero, touch, touch_fields, touch_of
-from histories import all_lifted, some_frames
+from histories import answered, injected, rest, some_frames
 from reference.integers import S4, U4, U8
 from reference.keeper import POSITION_KEPT
 from reference.refusals import NONE
@@ -23,24 +24,6 @@ def with_minus_zero(one, names, length):
     fields = touch_fields(0, [frame(one)])
     assert all(field.value == 0 for field in fields if field.name in names)
     return touch_of([minus_zero(field, length) if field.name in names else field for field in fields])
-
-
-def answered(history, message, refusal=NONE, injected=0, ignored=0, cancelled=0):
-    answer = history.send(message)
-    assert answer[:4] == (refusal, injected, ignored, cancelled), (message.hex(), answer)
-
-
-def injected(history, *sent):
-    """Messages of one frame each."""
-    for message in sent:
-        answered(history, message, injected=1)
-
-
-def rest(history):
-    """A running receiver without an active contact."""
-    if not history.keeper.running:
-        injected(history, touch(0, [frame(contact(0, 0x19))]))
-    injected(history, touch(0, [all_lifted(history.keeper)]))
 
 
 # A contact comes, moves and goes
@@ -149,7 +132,7 @@ def faults_between(history):
 
 def all_play(history):
     """From here on the history follows its receiver, padded messages and all."""
-    history.follow()
+    history.era = eras.PRESSED
     rest(history)
     strokes(history)
     lifts_at_zero(history)

@@ -4,8 +4,10 @@ import random
 import sys
 
 import corpus
+import eras
 import labels
 import make_batch
+import make_bench
 import make_choices
 import make_panel
 import make_plain
@@ -17,6 +19,7 @@ from reference import entries, house, integers, label, messages, panel, programs
 from reference.batch import Batch, receive_all
 from reference.integers import S2, S4, U2, U4, U8
 from reference.label import Choice, Chosen, Label, choose
+from reference.receiver import CANCELLED, IGNORED, INJECTED
 from reference.refusals import Refused
 
 SEED = 20260101
@@ -288,7 +291,7 @@ RULES = (
     ("an ignored lift or update does not end the ignoring", (
         (OPEN, ACCEPTED),
         (sent(frame(UPDATE), frame(LIFT), frame(UPDATE), frame()), (0, 0, 3, 1, 0, 0)),
-        (sent(frame(HOVER), frame(DOWN, HOVER)), (0, 0, 2, 0, 0, 0)),
+        (sent(frame(contact(1, 0x0A)), frame(DOWN, HOVER)), (0, 0, 2, 0, 0, 0)),
         (sent(frame(DOWN)), (0, 1, 0, 0, 0, 2)),
     )),
     ("frames before a bad one in the same message stay", (
@@ -356,6 +359,170 @@ def check_receiver_rules():
         for number, (message, want) in enumerate(steps, 1):
             keeper, answer = receiver.receive(keeper, message, bytearray(programs.LENT_TO_READERS))
             same(f"{rule}, message {number}", answer, want)
+
+
+# Hovering after a cancel (request #106), frame by frame: what is sent, the verdict (or the refusal) and the ids held
+# then. Two contacts may be active. A frame is written as id, flags, id, flags.
+
+
+def of(*values):
+    return sent(listing(*values))
+
+
+def listing(*values):
+    return frame(*(contact(*each) for each in zip(values[::2], values[1::2])))
+
+
+HOVERS, ODD = of(7, 0x0A), of(9, 0x1A)
+CANCELLED_HOVERING = ((HOVERS, INJECTED, ()), (ODD, CANCELLED, (7, 9)))
+
+HELD_RULES = (
+    ("a hand that hovers at the cancel", (
+        *CANCELLED_HOVERING,
+        (HOVERS, IGNORED, (7, 9)),
+        (of(), IGNORED, (7, 9)),
+        (of(9, 0x0A), IGNORED, (7, 9)),
+        (of(8, 0x0A, 7, 0x0A), IGNORED, (7, 8, 9)),
+        (of(7, 0x02), IGNORED, (8, 9)),
+        (of(8, 0x0A), IGNORED, (8, 9)),
+        (HOVERS, INJECTED, ()),
+        (of(7, 0x02), INJECTED, ()),
+    )),
+    ("a hand that is down at the cancel: the lift beside the position takes it out, the lift into hovering does not", (
+        (of(7, 0x19), INJECTED, ()),
+        (sent(frame(contact(7, 0x04, 1))), CANCELLED, ()),
+        (HOVERS, INJECTED, ()),
+        (of(7, 0x19), INJECTED, ()),
+        (sent(frame(contact(7, 0x0C, 1))), CANCELLED, (7,)),
+        (HOVERS, IGNORED, (7,)),
+        (of(7, 0x19), INJECTED, ()),
+    )),
+    ("the offending frame's own ids", (
+        (of(9, 0x04), CANCELLED, ()),
+        (of(9, 0x0A), INJECTED, ()),
+        (of(9, 0x02, 8, 0x22), CANCELLED, ()),
+        (of(9, 0x0A, 8, 0x0A), INJECTED, ()),
+        (of(7, 0x19), CANCELLED, (7, 8, 9)),
+        (of(7, 0x04, 8, 0x24, 9, 0x0C), IGNORED, (9,)),
+        (of(7, 0x0A, 8, 0x19), INJECTED, ()),
+    )),
+    ("an id twice: its last flags decide", (
+        (of(7, 0x02, 7, 0x1A), CANCELLED, (7,)),
+        (of(7, 0x1A, 7, 0x02), IGNORED, ()),
+        (HOVERS, INJECTED, ()),
+        (of(7, 0x0A, 7, 0x22), CANCELLED, ()),
+        (of(7, 0x04, 7, 0x0A), IGNORED, (7,)),
+        (HOVERS, IGNORED, (7,)),
+        (of(7, 0x19, 8, 0x04, 7, 0x24), IGNORED, ()),
+        (of(8, 0x0A, 7, 0x0A), INJECTED, ()),
+    )),
+    ("dismissals", (
+        *CANCELLED_HOVERING,
+        (corpus.dismiss(5), None, (7, 9)),
+        (corpus.dismiss(7), None, (9,)),
+        (corpus.dismiss(7), None, (9,)),
+        (of(7, 0x1A), IGNORED, (7, 9)),
+        (corpus.dismiss(7) + b"\0", 4, (7, 9)),
+        (corpus.message(6, b"\7\7"), 12, (7, 9)),
+        (corpus.dismiss(7), None, (9,)),
+        (HOVERS, INJECTED, ()),
+        (corpus.dismiss(7), None, ()),
+        (ODD, CANCELLED, (9,)),
+        (corpus.dismiss(9), None, ()),
+        (of(9, 0x0A), INJECTED, ()),
+    )),
+    ("a frame that opens and is cancelled leaves its own ids", (
+        *CANCELLED_HOVERING,
+        (of(1, 0x0A, 2, 0x0A, 3, 0x0A), CANCELLED, (1, 2, 3)),
+        (of(1, 0x0A), IGNORED, (1, 2, 3)),
+        (of(7, 0x0A, 7, 0x0A), CANCELLED, (7,)),
+        (of(7, 0x0A, 7, 0x0A), IGNORED, (7,)),
+        (of(9, 0x19, 9, 0x19), CANCELLED, (9,)),
+        (of(9, 0x19, 9, 0x19), CANCELLED, (9,)),
+        (of(7, 0x19, 8, 0x0A, 6, 0x19), CANCELLED, (6, 7, 8)),
+        (of(9, 0x19, 9, 0x0A), CANCELLED, (9,)),
+        (of(7, 0x0A), INJECTED, ()),
+    )),
+    ("presses and hovering in one frame, and presses alone", (
+        *CANCELLED_HOVERING,
+        (of(9, 0x19, 6, 0x0A), IGNORED, (6, 7, 9)),
+        (of(5, 0x19, 6, 0x0A), IGNORED, (5, 6, 7, 9)),
+        (of(1, 0x19, 2, 0x0A), INJECTED, ()),
+        (ODD, CANCELLED, (1, 2, 9)),
+        (of(1, 0x19, 9, 0x19), INJECTED, ()),
+        (of(8, 0x1A), CANCELLED, (1, 8, 9)),
+        (of(5, 0x19, 9, 0x19), INJECTED, ()),
+    )),
+    ("a refused message changes nothing", (
+        *CANCELLED_HOVERING,
+        (corpus.message(3, of(7, 0x02)[6:] + b"\0"), 12, (7, 9)),
+        (corpus.message(3, sent(listing(7, 0x02), listing(5, 0x0A))[6:-1] + b"\x1b"), 9, (7, 9)),
+        (corpus.message(3, of(5, 0x0A)[6:-1]), 5, (7, 9)),
+        (HOVERS, IGNORED, (7, 9)),
+        (of(5, 0x0A), INJECTED, ()),
+    )),
+)
+
+# Whether an id that a frame lists with these flags leaves.
+LETS_LEAVE = {0x02: True, 0x22: True, 0x04: True, 0x24: True, 0x0A: False, 0x0C: False, 0x19: False, 0x1A: False}
+
+
+def check_held_rules():
+    for rule, steps in HELD_RULES:
+        check_held_steps(rule, steps)
+    for flags, leaves in LETS_LEAVE.items():
+        listed, held = of(7, flags, 9, 0x1A), (9,) if leaves else (7, 9)
+        again = (HOVERS, INJECTED, ()) if leaves else (HOVERS, IGNORED, held)
+        check_held_steps(f"0x{flags:02X}, ignored", (*CANCELLED_HOVERING, (listed, IGNORED, held), again))
+        check_held_steps(f"0x{flags:02X}, offending", (CANCELLED_HOVERING[0], (listed, CANCELLED, held), again))
+
+
+def check_held_steps(rule, steps):
+    keeper, _ = receiver.receive(receiver.Receiver(), OPEN, bytearray())
+    for number, (message, outcome, held) in enumerate(steps, 1):
+        keeper, answer = receiver.receive(keeper, message, bytearray(programs.LENT_TO_READERS))
+        counts = [answer.injected, answer.ignored, answer.cancelled]
+        want = [int(outcome == verdict) for verdict in (INJECTED, IGNORED, CANCELLED)]
+        same(f"{rule}, {number}", (answer.refusal, counts), (outcome if isinstance(outcome, int) else 0, want))
+        same(f"{rule}, {number} holds", keeper.held, set(held))
+        if outcome in (INJECTED, IGNORED, CANCELLED):
+            same(f"{rule}, {number} runs", keeper.running, outcome == INJECTED)
+
+
+def check_all_held():
+    """All 256 ids: none opens by hovering but the one that left."""
+    keeper = received_all(OPEN, ODD, *(of(*(value for each in group for value in (each, 0x1A))) for group in groups()))
+    same("all held", keeper.held, set(range(256)))
+    for contact_id in range(256):
+        hovers = listing(contact_id, 0x0A)
+        same(f"{contact_id} held", receiver.frame_step(keeper, hovers)[:2], (keeper, IGNORED))
+        left, verdict, _ = receiver.frame_step(keeper, listing(contact_id, 0x02))
+        same(f"{contact_id} leaves", (left.held, verdict), (set(range(256)) - {contact_id}, IGNORED))
+        same(f"{contact_id} left", receiver.frame_step(left, hovers)[1], INJECTED)
+        same(f"{contact_id} pressed", receiver.frame_step(keeper, listing(contact_id, 0x19))[1], INJECTED)
+
+
+def groups():
+    return [range(at, min(at + 63, 256)) for at in range(0, 256, 63)]
+
+
+def received_all(*sent_messages):
+    """The receiver after messages that it accepts."""
+    keeper = receiver.Receiver()
+    for message in sent_messages:
+        keeper, answer = receiver.receive(keeper, message, bytearray(programs.LENT_TO_READERS))
+        same(message.hex(), answer.refusal, 0)
+    return keeper
+
+
+def check_no_room_to_open():
+    """13 leaves the set as it was, whatever frames came before the one that opens."""
+    keeper = received_all(OPEN, HOVERS, ODD)
+    for message in (of(5, 0x0A), sent(listing(7, 0x02), listing(7, 0x0A)), sent(listing(4, 0x1A), listing(5, 0x0A))):
+        same(message.hex(), receiver.receive(keeper, message, bytearray(41)), (keeper, receiver.Answer(13)))
+        same(f"{message.hex()} with room", receiver.receive(keeper, message, bytearray(42))[1].refusal, 0)
+    emptied, _ = receiver.receive(keeper, of(5, 0x0A, 5, 0x0A), bytearray())
+    same("a cancel without records needs no room", emptied.held, {5})
 
 
 def check_untimed_records():
@@ -738,13 +905,16 @@ def lent_output(room):
     return bytearray(b"\xee" * room)
 
 
+BATCH_MAKERS = (
+    make_batch.main_batches,
+    make_batch.untimed_batches,
+    make_batch.crowded_batches,
+    make_batch.single_batches,
+)
+
+
 def check_batch_laws(rng):
-    for maker in (
-        make_batch.main_batches,
-        make_batch.untimed_batches,
-        make_batch.crowded_batches,
-        make_batch.single_batches,
-    ):
+    for maker in BATCH_MAKERS:
         host, keeper = maker(), receiver.Receiver()
         for payload in host.entries:
             if len(payload) >= 6:
@@ -786,6 +956,108 @@ def in_two_batches(keeper, payloads, at, room, places):
     keeper, second = receive_all(keeper, entries.join(payloads[at:]), second_answers, left)
     answer = Batch(0, first.entries + second.entries, first.records + second.records)
     return keeper, answer, first_answers + second_answers, output
+
+
+# Request #106's sentence over whole corpora, without keeping a set: a look back at what happened since the last
+# cancel. An event has the ids that join and those that leave by it.
+
+
+def looking_back(events):
+    """An id is held that has joined and has not left since, by the same event or a later one."""
+    joined_last = {contact_id: at for at, (joining, _) in enumerate(events) for contact_id in joining}
+    return {
+        contact_id
+        for contact_id, at in joined_last.items()
+        if not any(contact_id in leaving for _, leaving in events[at:])
+    }
+
+
+def ids_of(one):
+    return {each.id for each in one.contacts}
+
+
+def leaving_in(one):
+    """The ids of the contacts with leaving flags that no other contact of the same id comes behind."""
+    return {
+        each.id
+        for at, each in enumerate(one.contacts)
+        if LETS_LEAVE[each.flags] and all(other.id != each.id for other in one.contacts[at + 1 :])
+    }
+
+
+def ends_ignoring(one, held):
+    pressed = [each for each in one.contacts if each.flags == 0x19]
+    hovering = [each for each in one.contacts if each.flags == 0x0A]
+    if len(pressed) + len(hovering) < len(one.contacts) or not one.contacts:
+        return False
+    return not hovering or all(each.id not in held for each in pressed + hovering)
+
+
+def check_frame_held(keeper, events, one):
+    """The receiver after a frame, and the events since the last cancel; none while running."""
+    after, verdict, _ = receiver.frame_step(keeper, one)
+    ignored = not keeper.running and not ends_ignoring(one, looking_back(events))
+    same(f"{one} ignored", verdict == IGNORED, ignored)
+    if verdict == INJECTED:
+        events = []
+    elif verdict == CANCELLED:
+        events = [(ids_of(one) | keeper.active.keys(), leaving_in(one))]
+    else:
+        events = [*events, (ids_of(one), leaving_in(one))]
+    same(f"{one} leaves held", after.held, looking_back(events))
+    return after, events
+
+
+def check_message_held(keeper, events, message, room):
+    """The receiver after a message, its answer and the events; a refused message changes nothing."""
+    after, answer = receiver.receive(keeper, message, bytearray(room))
+    if answer.refusal != 0:
+        same(f"{message.hex()} refused", after, keeper)
+        return after, answer, events
+    check_two_rules(keeper, message)
+    if message[0] == 6 and not keeper.running:
+        events = [*events, (set(), {message[6]})]
+    elif message[0] == 3:
+        for one in messages.read_touch(message).frames:
+            keeper, events = check_frame_held(keeper, events, one)
+    same(f"{message.hex()} leaves held", (after.held, after.running), (looking_back(events), keeper.running))
+    return after, answer, events
+
+
+def check_two_rules(keeper, message):
+    """The rule before the request answers otherwise only where a frame opens that hovers."""
+    room = bytearray(programs.LENT_TO_READERS)
+    pressed = eras.PressedReceiver(**vars(keeper))
+    if receiver.receive(pressed, message, room)[1] == receiver.receive(keeper, message, room)[1]:
+        return
+    opened = False
+    for one in messages.read_touch(message).frames:
+        hovers = any(each.flags == 0x0A for each in one.contacts)
+        opened |= hovers and not keeper.running and receiver.opening(one, keeper.held)
+        keeper, _, _ = receiver.frame_step(keeper, one)
+    same(f"{message.hex()} opens by hovering", opened, True)
+
+
+def check_held_histories():
+    histories = dict(make_bench.more_histories(), main=make_bench.main_history())
+    for name, history in histories.items():
+        keeper, events = receiver.Receiver(), []
+        for message in history.entries:
+            keeper, _, events = check_message_held(keeper, events, message, programs.LENT_TO_READERS)
+        same(f"{name} leaves", keeper, history.receiver)
+
+
+def check_held_batches():
+    """With the room that the entries before leave, 13 and all."""
+    for maker in BATCH_MAKERS:
+        keeper, events = receiver.Receiver(), []
+        for payload in maker().entries:
+            after, _, fed = programs.batch_call(keeper, payload)
+            left = min(int.from_bytes(payload[:4], "big"), 131072)
+            for message in entries.split(payload[6:])[0][: len(fed)]:
+                keeper, answer, events = check_message_held(keeper, events, message, left)
+                left -= answer.records * house.LENGTH
+            same(f"{maker.__name__} leave", keeper, after)
 
 
 # Boat list buttons: a file with its bytes written out, and what 'choices' prints for it.
@@ -988,6 +1260,9 @@ def main():
     check_first_fault_answers()
     check_lift_elsewhere()
     check_receiver_rules()
+    check_held_rules()
+    check_all_held()
+    check_no_room_to_open()
     check_untimed_records()
     check_cancel_records()
     check_house(rng)
@@ -1003,6 +1278,8 @@ def main():
     check_batch_file()
     check_receiver_rules_in_batches()
     check_batch_laws(rng)
+    check_held_histories()
+    check_held_batches()
     check_choices_file()
     check_choice_laws(rng)
     check_marks(rng)

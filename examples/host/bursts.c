@@ -65,7 +65,7 @@ static int same_receiver(const struct kangirlo_receiver *a, const struct kangirl
 	return a->ready == b->ready && a->begun == b->begun && a->ignoring == b->ignoring && a->settings.flags == b->settings.flags
 	       && a->settings.version == b->settings.version && a->settings.most == b->settings.most
 	       && memcmp(a->states, b->states, sizeof a->states) == 0 && memcmp(a->xs, b->xs, sizeof a->xs) == 0
-	       && memcmp(a->ys, b->ys, sizeof a->ys) == 0;
+	       && memcmp(a->ys, b->ys, sizeof a->ys) == 0 && memcmp(a->held, b->held, sizeof a->held) == 0;
 }
 
 /* As the reference is, which is fed by kangirlo_receive. */

@@ -43,6 +43,23 @@ static int answers(struct kangirlo_answer a, int refusal, int injected, int igno
 	       && a.records == records;
 }
 
+/* Whether just these ids are held, and each byte is 1 or 0. */
+static int holds(const uint8_t held[256], const uint8_t *ids, size_t count)
+{
+	uint8_t wanted[256] = {0};
+
+	for (size_t i = 0; i < count; i++)
+		wanted[ids[i]] = 1;
+	return memcmp(held, wanted, sizeof wanted) == 0;
+}
+
+#define HOLDS(held, ...) holds(held, (const uint8_t[]){__VA_ARGS__}, sizeof((const uint8_t[]){__VA_ARGS__}))
+
+static int holds_none(const uint8_t held[256])
+{
+	return holds(held, NULL, 0);
+}
+
 static struct kangirlo_record record_at(size_t i)
 {
 	return kangirlo_read_record(output + i * KANGIRLO_RECORD_BYTES, KANGIRLO_RECORD_BYTES);
@@ -54,7 +71,7 @@ static void test_receiver(const struct way *way)
 	struct kangirlo_receiver r = kangirlo_fresh();
 
 	EXPECT(memcmp(r.states, zeros.states, sizeof r.states) == 0 && memcmp(r.xs, zeros.xs, sizeof r.xs) == 0);
-	EXPECT(memcmp(r.ys, zeros.ys, sizeof r.ys) == 0 && r.ready == 0 && r.begun == 0 && r.ignoring == 0);
+	EXPECT(memcmp(r.ys, zeros.ys, sizeof r.ys) == 0 && r.ready == 0 && r.begun == 0 && r.ignoring == 0 && holds_none(r.held));
 	EXPECT(r.settings.flags == 0 && r.settings.version == 0 && r.settings.most == 0);
 	EXPECT(answers(way->receive(&r, down, sizeof down, output, sizeof output), KANGIRLO_UNEXPECTED, 0, 0, 0, 0, 0));
 	EXPECT(answers(way->receive(&r, ready, sizeof ready, output, sizeof output), KANGIRLO_TAKEN, 0, 0, 0, 0, 0));
@@ -66,12 +83,118 @@ static void test_receiver(const struct way *way)
 	EXPECT(record_at(0).kind == KANGIRLO_HEAD && record_at(0).count == 1);
 	EXPECT(record_at(1).kind == KANGIRLO_CONTACT && record_at(1).flags == 0x19 && record_at(1).id == 1 && record_at(1).x == 100);
 	EXPECT(answers(way->receive(&r, up, sizeof up, output, sizeof output), KANGIRLO_TAKEN, 1, 0, 0, 0, 2));
-	EXPECT(r.states[1] == 0 && r.xs[1] == 0 && r.ys[1] == 0 && r.ignoring == 0);
+	EXPECT(r.states[1] == 0 && r.xs[1] == 0 && r.ys[1] == 0 && r.ignoring == 0 && holds_none(r.held));
 	EXPECT(answers(way->receive(&r, update, sizeof update, output, sizeof output), KANGIRLO_TAKEN, 0, 0, 1, 0, 0));
-	EXPECT(r.ignoring == 1);
-	EXPECT(answers(way->receive(&r, full, sizeof full, output, sizeof output), KANGIRLO_TAKEN, 0, 1, 0, 70, 0));
-	EXPECT(r.ignoring == 1 && r.states[3] == 0);
+	EXPECT(r.ignoring == 1 && HOLDS(r.held, 1));
+	EXPECT(answers(way->receive(&r, other, sizeof other, output, sizeof output), KANGIRLO_TAKEN, 0, 1, 0, 0, 0));
+	EXPECT(r.ignoring == 1 && r.states[2] == 0 && HOLDS(r.held, 1, 2));
 	EXPECT(answers(way->receive(&r, ready, 0, output, sizeof output), KANGIRLO_SHORT, 0, 0, 0, 0, 0));
+	EXPECT(answers(way->receive(&r, full, sizeof full, output, sizeof output), KANGIRLO_TAKEN, 1, 0, 0, 70, 2));
+	EXPECT(r.ignoring == 0 && r.states[3] == 1 && r.xs[3] == -50 && r.ys[3] == 900 && holds_none(r.held));
+}
+
+/* A frame of one contact at 100, 50 in a message of its own, lent so much room. */
+static struct kangirlo_answer touch(const struct way *way, struct kangirlo_receiver *r, uint8_t id, uint8_t flags, size_t room)
+{
+	uint8_t message[sizeof down];
+
+	memcpy(message, down, sizeof down);
+	message[10] = id;
+	message[16] = flags;
+	return way->receive(r, message, sizeof message, output, room);
+}
+
+static struct kangirlo_answer dismiss(const struct way *way, struct kangirlo_receiver *r, uint8_t id, size_t room)
+{
+	const uint8_t message[] = {6, 0, 7, 0, 0, 0, id};
+
+	return way->receive(r, message, sizeof message, output, room);
+}
+
+/* A receiver of which contact 1 hovered when an update of contact 2 was cancelled. */
+static struct kangirlo_receiver cancelled_hover(const struct way *way)
+{
+	struct kangirlo_receiver r = kangirlo_fresh();
+
+	EXPECT(answers(way->receive(&r, ready, sizeof ready, output, sizeof output), KANGIRLO_TAKEN, 0, 0, 0, 0, 0));
+	EXPECT(answers(touch(way, &r, 1, 0x0A, sizeof output), KANGIRLO_TAKEN, 1, 0, 0, 0, 2));
+	EXPECT(r.states[1] == 1 && holds_none(r.held));
+	EXPECT(answers(touch(way, &r, 2, 0x1A, 20), KANGIRLO_NO_ROOM, 0, 0, 0, 0, 0));
+	EXPECT(r.ignoring == 0 && r.states[1] == 1 && holds_none(r.held));
+	EXPECT(answers(touch(way, &r, 2, 0x1A, 21), KANGIRLO_TAKEN, 0, 0, 1, 0, 1));
+	EXPECT(r.ignoring == 1 && r.states[1] == 0 && HOLDS(r.held, 1, 2));
+	return r;
+}
+
+/* After a cancel a hovering contact is ignored as long as its id is held, and opens when it is not. */
+static void test_held(const struct way *way)
+{
+	struct kangirlo_receiver r = cancelled_hover(way);
+
+	EXPECT(answers(touch(way, &r, 1, 0x0A, 0), KANGIRLO_TAKEN, 0, 1, 0, 0, 0));
+	EXPECT(r.ignoring == 1 && r.states[1] == 0 && HOLDS(r.held, 1, 2));
+	EXPECT(answers(touch(way, &r, 255, 0x0C, 0), KANGIRLO_TAKEN, 0, 1, 0, 0, 0) && HOLDS(r.held, 1, 2, 255));
+	EXPECT(answers(touch(way, &r, 1, 0x0B, sizeof output), KANGIRLO_BAD_FLAGS, 0, 0, 0, 0, 0) && HOLDS(r.held, 1, 2, 255));
+	EXPECT(answers(touch(way, &r, 1, 0x02, 0), KANGIRLO_TAKEN, 0, 1, 0, 0, 0) && HOLDS(r.held, 2, 255));
+	EXPECT(answers(touch(way, &r, 1, 0x0A, 41), KANGIRLO_NO_ROOM, 0, 0, 0, 0, 0) && r.ignoring == 1 && HOLDS(r.held, 2, 255));
+	EXPECT(answers(touch(way, &r, 1, 0x0A, 42), KANGIRLO_TAKEN, 1, 0, 0, 0, 2));
+	EXPECT(r.ignoring == 0 && r.states[1] == 1 && r.xs[1] == 100 && r.ys[1] == 50 && holds_none(r.held));
+}
+
+/* A dismissal while frames are ignored, of an id that is held and of one that is not. */
+static void test_held_dismissed(const struct way *way)
+{
+	static const uint8_t cut[] = {6, 0, 6, 0, 0, 0};
+	struct kangirlo_receiver r = cancelled_hover(way);
+
+	EXPECT(answers(way->receive(&r, cut, sizeof cut, output, sizeof output), KANGIRLO_TRUNCATED, 0, 0, 0, 0, 0));
+	EXPECT(answers(dismiss(way, &r, 3, 0), KANGIRLO_TAKEN, 0, 0, 0, 0, 0) && HOLDS(r.held, 1, 2));
+	EXPECT(answers(dismiss(way, &r, 1, 0), KANGIRLO_TAKEN, 0, 0, 0, 0, 0) && r.ignoring == 1 && HOLDS(r.held, 2));
+	EXPECT(answers(touch(way, &r, 1, 0x0A, sizeof output), KANGIRLO_TAKEN, 1, 0, 0, 0, 2));
+	EXPECT(r.ignoring == 0 && r.states[1] == 1 && holds_none(r.held));
+}
+
+/* A frame that is cancelled by itself: it opens, has an id twice, and leaves just its own ids held. */
+static void test_held_anew(const struct way *way)
+{
+	static const uint8_t twice[] = {3, 0, 20, 0, 0, 0, 0, 1, 2, 0, 9, 0, 1, 1, 0x0A, 9, 0, 1, 1, 0x19};
+	struct kangirlo_receiver r = cancelled_hover(way);
+
+	EXPECT(answers(way->receive(&r, twice, sizeof twice, output, 0), KANGIRLO_TAKEN, 0, 0, 1, 0, 0));
+	EXPECT(r.ignoring == 1 && HOLDS(r.held, 9));
+	EXPECT(answers(touch(way, &r, 9, 0x19, sizeof output), KANGIRLO_TAKEN, 1, 0, 0, 0, 2));
+	EXPECT(r.ignoring == 0 && r.states[9] == 2 && holds_none(r.held));
+}
+
+/* What no history leads to: a receiver that ignores nothing and has ids held. Nobody looks at them, until a cancel or a dismissal. */
+static void test_held_astray(const struct way *way)
+{
+	struct kangirlo_receiver r = kangirlo_fresh(), wanted;
+
+	EXPECT(answers(way->receive(&r, ready, sizeof ready, output, sizeof output), KANGIRLO_TAKEN, 0, 0, 0, 0, 0));
+	r.held[1] = r.held[7] = 1;
+	r.held[200] = 9;
+	wanted = r;
+	EXPECT(answers(touch(way, &r, 1, 0x0A, sizeof output), KANGIRLO_TAKEN, 1, 0, 0, 0, 2) && r.states[1] == 1);
+	EXPECT(r.ignoring == 0 && memcmp(r.held, wanted.held, sizeof r.held) == 0);
+	EXPECT(answers(dismiss(way, &r, 1, 20), KANGIRLO_NO_ROOM, 0, 0, 0, 0, 0) && r.states[1] == 1);
+	EXPECT(memcmp(r.held, wanted.held, sizeof r.held) == 0);
+	wanted.held[1] = 0;
+	EXPECT(answers(dismiss(way, &r, 1, 21), KANGIRLO_TAKEN, 0, 0, 0, 0, 1) && r.states[1] == 0);
+	EXPECT(memcmp(r.held, wanted.held, sizeof r.held) == 0);
+	wanted.held[7] = 0;
+	EXPECT(answers(dismiss(way, &r, 7, 0), KANGIRLO_TAKEN, 0, 0, 0, 0, 0));
+	EXPECT(memcmp(r.held, wanted.held, sizeof r.held) == 0);
+	EXPECT(answers(touch(way, &r, 2, 0x1A, 0), KANGIRLO_TAKEN, 0, 0, 1, 0, 0));
+	EXPECT(r.ignoring == 1 && HOLDS(r.held, 2));
+}
+
+static void test_held_by(const struct way *way)
+{
+	test_held(way);
+	test_held_dismissed(way);
+	test_held_anew(way);
+	test_held_astray(way);
 }
 
 /* Integers of any length are taken, and minus zero as zero. */
@@ -141,11 +264,11 @@ static void test_batch(const struct way *way)
 	EXPECT(has(a[3], KANGIRLO_TAKEN, 1, 0, 70, 2) && has(a[4], KANGIRLO_TAKEN, 0, 1, 0, 2));
 	EXPECT(a[5].refusal == 1 && a[5].injected == 2 && a[5].ignored == 3 && a[5].cancelled == 4 && a[5].time == 5);
 	EXPECT(record_at(1).id == 1 && record_at(3).id == 3 && record_at(4).kind == KANGIRLO_CANCEL && a[5].records == 6);
-	EXPECT(r.ready == 1 && r.begun == 1 && r.ignoring == 1 && r.states[1] == 0 && r.settings.most == 10);
+	EXPECT(r.ready == 1 && r.begun == 1 && r.ignoring == 1 && r.states[1] == 0 && r.settings.most == 10 && HOLDS(r.held, 1, 2, 3));
 	EXPECT(batches(way, &r, buffer, 0, a, 0, KANGIRLO_TAKEN, 0, 0));
 }
 
-/* The contacts of a receiver in parts, and what they have to be. */
+/* The arrays of a receiver in parts, and what they have to be. */
 static struct apart parts, kept;
 
 /* Marks that are all different, to see each arrive and come back. */
@@ -157,16 +280,17 @@ static int same_marks(struct kangirlo_marks a, struct kangirlo_marks b)
 	       && a.settings.version == b.settings.version && a.settings.most == b.settings.most;
 }
 
-/* Contact 7 hovers, and nothing is written. */
+/* Contact 7 hovers, a byte is held that only a cancel looks at, and nothing is written. */
 static void lay_out(void)
 {
 	memset(&kept, 0, sizeof kept);
 	apart_put(&kept, 7, 1, -9, 11);
+	kept.held[200] = 3;
 	parts = kept;
 	memset(output, UNTOUCHED, sizeof output);
 }
 
-/* The contacts are those that are kept, and the output is untouched but for so many records. */
+/* The arrays are those that are kept, and the output is untouched but for so many records. */
 static int left_with(size_t records)
 {
 	size_t at = records * KANGIRLO_RECORD_BYTES;
@@ -178,7 +302,14 @@ static int left_with(size_t records)
 
 static struct kangirlo_turn receive_parts(struct kangirlo_marks marks, const uint8_t *message, size_t length, size_t room)
 {
-	return kangirlo_receive_parts(marks, message, length, output, room, parts.states, parts.xs, parts.ys);
+	return kangirlo_receive_parts(marks, message, length, output, room, parts.states, parts.xs, parts.ys, parts.held);
+}
+
+/* All contacts go out, and four ids are held: those of contacts 1, 3 and 7, and that of the frame. */
+static void keep_cancelled(void)
+{
+	memset(&kept, 0, sizeof kept);
+	kept.held[1] = kept.held[2] = kept.held[3] = kept.held[7] = 1;
 }
 
 static void test_marks(void)
@@ -214,17 +345,28 @@ static void test_parts(void)
 	apart_put(&kept, 3, 1, -50, 900);
 	EXPECT(same_marks(t.marks, begun) && answers(t.answer, KANGIRLO_TAKEN, 1, 0, 0, 70, 2) && left_with(2));
 	t = receive_parts(begun, other, sizeof other, sizeof output);
-	memset(&kept, 0, sizeof kept);
+	keep_cancelled();
 	EXPECT(same_marks(t.marks, ignoring) && answers(t.answer, KANGIRLO_TAKEN, 0, 0, 1, 0, 3) && left_with(3));
 	EXPECT(record_at(2).kind == KANGIRLO_CANCEL && record_at(2).id == 7 && record_at(2).x == -9 && record_at(2).y == 11);
 	t = receive_parts(ignoring, other, sizeof other, 0);
 	EXPECT(same_marks(t.marks, ignoring) && answers(t.answer, KANGIRLO_TAKEN, 0, 1, 0, 0, 0) && left_with(3));
+	t = receive_parts(ignoring, up, sizeof up, 0);
+	kept.held[1] = 0;
+	EXPECT(same_marks(t.marks, ignoring) && answers(t.answer, KANGIRLO_TAKEN, 0, 1, 0, 0, 0) && left_with(3));
+	t = receive_parts(ignoring, full, sizeof full, sizeof output);
+	EXPECT(same_marks(t.marks, ignoring) && answers(t.answer, KANGIRLO_TAKEN, 0, 1, 0, 70, 0) && left_with(3));
+	t = receive_parts(ignoring, down, sizeof down, 41);
+	EXPECT(same_marks(t.marks, ignoring) && answers(t.answer, KANGIRLO_NO_ROOM, 0, 0, 0, 0, 0) && left_with(3));
+	t = receive_parts(ignoring, down, sizeof down, 42);
+	memset(kept.held, 0, sizeof kept.held);
+	apart_put(&kept, 1, 2, 100, 50);
+	EXPECT(same_marks(t.marks, begun) && answers(t.answer, KANGIRLO_TAKEN, 1, 0, 0, 0, 2) && left_with(3));
 }
 
 static struct kangirlo_batch_turn receive_all_parts(struct kangirlo_marks marks, const uint8_t *buffer, size_t length,
                                                     struct kangirlo_batch_answer *a, size_t numbers, size_t room)
 {
-	return kangirlo_receive_all_parts(marks, buffer, length, a, numbers, output, room, parts.states, parts.xs, parts.ys);
+	return kangirlo_receive_all_parts(marks, buffer, length, a, numbers, output, room, parts.states, parts.xs, parts.ys, parts.held);
 }
 
 /* The five of a batch: refused, with too little room for the last two, and with enough. */
@@ -246,7 +388,7 @@ static void test_batch_parts(void)
 	EXPECT(has(a[3], KANGIRLO_NO_ROOM, 0, 0, 0, 0) && has(a[4], KANGIRLO_NO_ROOM, 0, 0, 0, 0));
 	lay_out();
 	t = receive_all_parts(fresh, buffer, n, a, KANGIRLO_BATCH_NUMBERS(6), sizeof output);
-	memset(&kept, 0, sizeof kept);
+	keep_cancelled();
 	EXPECT(same_marks(t.marks, ignoring) && counts(t.batch, KANGIRLO_TAKEN, 5, 7) && left_with(7));
 	EXPECT(has(a[3], KANGIRLO_TAKEN, 1, 0, 70, 2) && has(a[4], KANGIRLO_TAKEN, 0, 1, 0, 3) && record_at(6).id == 7);
 	EXPECT(a[5].refusal == 1 && a[5].records == 6);
@@ -350,6 +492,8 @@ int main(void)
 
 	test_receiver(&whole);
 	test_receiver(&direct);
+	test_held_by(&whole);
+	test_held_by(&direct);
 	test_padded(&whole);
 	test_padded(&direct);
 	test_batch(&whole);

@@ -34,8 +34,8 @@ static void fresh(void)
 	lent.receiver = kangirlo_fresh();
 }
 
-/* Some arguments of the calls for a receiver go on the stack, and are counted: four of receive_parts, two of receive_all and
- * receive_all_direct, six of receive_all_parts. */
+/* Some arguments of the calls for a receiver go on the stack, and are counted: five of receive_parts, two of receive_all and
+ * receive_all_direct, seven of receive_all_parts. */
 static void receive(void)
 {
 	PAINTED_MARK();
@@ -49,7 +49,7 @@ static void receive_parts(void)
 
 	PAINTED_MARK();
 	turn = kangirlo_receive_parts(marks, lent.message, lent.length, lent.output, lent.room, lent.receiver.states, lent.receiver.xs,
-	                              lent.receiver.ys);
+	                              lent.receiver.ys, lent.receiver.held);
 	kangirlo_keep_marks(&lent.receiver, turn.marks);
 	lent.records = turn.answer.records;
 }
@@ -76,7 +76,7 @@ static void receive_all_parts(void)
 
 	PAINTED_MARK();
 	turn = kangirlo_receive_all_parts(marks, lent.entry, 2 + lent.length, &lent.answer, KANGIRLO_BATCH_NUMBERS(1), lent.output, lent.room,
-	                                  lent.receiver.states, lent.receiver.xs, lent.receiver.ys);
+	                                  lent.receiver.states, lent.receiver.xs, lent.receiver.ys, lent.receiver.held);
 	kangirlo_keep_marks(&lent.receiver, turn.marks);
 	lent.records = turn.batch.records;
 }

@@ -17,14 +17,17 @@ static uint8_t from_host[KANGIRLO_MESSAGE_MOST];
 static uint8_t output[KANGIRLO_OUTPUT_MOST];
 static const struct batch nothing;
 
+/* Of the panel's fields; and nothing is ignored, nor held for it. */
 static bool ends_agree(void)
 {
+	static const uint8_t none_held[sizeof receiver.held];
 	const struct kangirlo_panel *panel = &sender.panel;
 
 	return receiver.ready == panel->ready && receiver.begun == panel->begun && receiver.ignoring == 0
 	       && receiver.settings.flags == panel->settings.flags && receiver.settings.version == panel->settings.version
 	       && receiver.settings.most == panel->settings.most && memcmp(receiver.states, panel->states, sizeof panel->states) == 0
-	       && memcmp(receiver.xs, panel->xs, sizeof panel->xs) == 0 && memcmp(receiver.ys, panel->ys, sizeof panel->ys) == 0;
+	       && memcmp(receiver.xs, panel->xs, sizeof panel->xs) == 0 && memcmp(receiver.ys, panel->ys, sizeof panel->ys) == 0
+	       && memcmp(receiver.held, none_held, sizeof none_held) == 0;
 }
 
 /* What the host wrote arrives at the panel. */

@@ -37,10 +37,9 @@ def big_endian(data):
 # bench, records and in_place: one fresh receiver takes all entries
 
 
-def received(data):
+def received(data, keeper=receiver.Receiver()):
     """Each complete entry's answer, the bytes of its records and the receiver after it."""
     payloads, _ = entries.split(data)
-    keeper = receiver.Receiver()
     for payload in payloads:
         output = bytearray(LENT_TO_READERS)
         keeper, answer = receiver.receive(keeper, payload, output)

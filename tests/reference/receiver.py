@@ -18,7 +18,10 @@ from .keeper import (
 from .output import put
 from .refusals import NONE, Refused
 
-OPENING_FLAGS = 0x19
+DOWN_FLAGS = 0x19
+HOVER_FLAGS = 0x0A
+# An id that a frame lists last with one of these leaves the set of held ids.
+LEAVING_FLAGS = (0x02, 0x22, 0x04, 0x24)
 
 INJECTED = "injected"
 IGNORED = "ignored"
@@ -27,9 +30,10 @@ CANCELLED = "cancelled"
 
 @dataclass(frozen=True)
 class Receiver(Keeper):
-    """A fresh one runs."""
+    """A fresh one runs. 'held' has the ids that a hovering frame must not have to open; none while running."""
 
     running: bool = True
+    held: frozenset = frozenset()
 
 
 class Answer(NamedTuple):
@@ -89,16 +93,34 @@ def without_time(touch):
 
 def frame_step(receiver, frame):
     """A whole frame is judged before any of it is written."""
-    if not receiver.running and not opening(frame):
-        return receiver, IGNORED, []
+    if not receiver.running and not opening(frame, receiver.held):
+        return replace(receiver, held=held_after(receiver.held, frame)), IGNORED, []
+    # What was held before is forgotten, whatever becomes of the frame.
     if conforms(receiver, frame):
-        after = replace(receiver, running=True, active=active_after(receiver, frame))
+        after = replace(receiver, running=True, held=frozenset(), active=active_after(receiver, frame))
         return after, INJECTED, messages.frame_records(frame)
-    return replace(receiver, running=False, active={}), CANCELLED, cancel_records(receiver)
+    held = held_after(frozenset(receiver.active), frame)
+    return replace(receiver, running=False, held=held, active={}), CANCELLED, cancel_records(receiver)
 
 
-def opening(frame):
-    return len(frame.contacts) > 0 and all(each.flags == OPENING_FLAGS for each in frame.contacts)
+# Ignoring (request #106)
+
+
+def opening(frame, held):
+    """All contacts press, or press or hover with no held id among them; the pressing ones' ids count too."""
+    flags = {each.flags for each in frame.contacts}
+    ids = {each.id for each in frame.contacts}
+    return flags == {DOWN_FLAGS} or (flags in ({HOVER_FLAGS}, {HOVER_FLAGS, DOWN_FLAGS}) and ids.isdisjoint(held))
+
+
+def held_after(held, frame):
+    """The frame's ids join first; of an id that is in it twice the last flags say whether it leaves."""
+    last_flags = {each.id: each.flags for each in frame.contacts}
+    leaving = {contact_id for contact_id, flags in last_flags.items() if flags in LEAVING_FLAGS}
+    return held.union(last_flags).difference(leaving)
+
+
+# Records of kinds 2 and 3
 
 
 def cancel_records(receiver):
@@ -113,10 +135,11 @@ def cancel_record(contact_id, place):
 
 
 def dismiss(receiver, contact_id):
-    """Only a hovering contact goes out of range ([MS-RDPEI] 3.2.5.6)."""
+    """Only a hovering contact goes out of range ([MS-RDPEI] 3.2.5.6); any id is held no more."""
+    after = replace(receiver, held=receiver.held - {contact_id})
     if not hovers(receiver, contact_id):
-        return receiver, Answer(), []
+        return after, Answer(), []
     place = receiver.place(contact_id)
     record = house.Contact(house.DISMISSAL_KIND, house.DISMISSAL_FLAGS, 0, contact_id, place.x, place.y)
-    after = replace(receiver, active=active_without(receiver, contact_id))
+    after = replace(after, active=active_without(receiver, contact_id))
     return after, Answer(), [house.pack_contact(record)]

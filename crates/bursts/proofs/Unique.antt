@@ -5,10 +5,9 @@ use mathlib.Core.Path.{_≡_, refl, sym, ap, _∙_}
 use mathlib.Core.Bool.{Bool, true, false}
 use mathlib.Core.List.{List}
 use lib.ListN.{length}
-use Rattle.machine.specs.Table.{Table}
+use Rattle.machine.specs.Machine.{Arrays}
 use Rattle.receiver.specs.declared.Receiver.{Receiver}
-use Rattle.receiver.specs.Events.{marksOf, ofParts}
-use Rattle.receiver.specs.History.{tableOf}
+use Rattle.receiver.specs.Receive.{arraysOf, marksOf, ofParts}
 use Rattle.intake.specs.declared.Fed.{Fed}
 use Rattle.intake.proofs.Unique.{feeds-unique}
 use Rattle.bursts.specs.declared.Batch.{Batch}
@@ -48,8 +47,8 @@ module _ (r : Receiver) (buffer : List ℕ) (p q : Receiver) (b c : Batch) (a₀
       go true e = all-unique (x .fed e) (y .fed e)
       go false e = none-unique (x .refused e) (y .refused e)
 
--- .. and where the receiver is lent in parts, in its marks and in its contacts
-pub receive-all-parts-unique : (r : Receiver) (buffer : List ℕ) (m n : BatchTurn) (t u : Table) (a₀ a a′ o₀ o o′ : List ℕ)
+-- .. and where the receiver is lent in parts, in its marks, its contacts and its set
+pub receive-all-parts-unique : (r : Receiver) (buffer : List ℕ) (m n : BatchTurn) (t u : Arrays) (a₀ a a′ o₀ o o′ : List ℕ)
     → ReceivesAll r buffer (ofParts (m .marks) t) (m .batch) a₀ a o₀ o → ReceivesAll r buffer (ofParts (n .marks) u) (n .batch) a₀ a′ o₀ o′
     → (m ≡ n) × (t ≡ u) × (a ≡ a′) × (o ≡ o′)
 receive-all-parts-unique r buffer m n t u a₀ a a′ o₀ o o′ x y =
@@ -58,7 +57,7 @@ receive-all-parts-unique r buffer m n t u a₀ a a′ o₀ o o′ x y =
         marks = marksOf (e .receiver i);
         batch = e .batch i;
       },
-      λ i. tableOf (e .receiver i),
+      λ i. arraysOf (e .receiver i),
       e .answers,
       e .output,
     )

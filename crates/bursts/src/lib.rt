@@ -4,8 +4,8 @@ use receiver::Marks;
 use receiver::Receiver;
 ghost use mathlib.Core.Path.{_≡_};
 ghost use lib.ListN.{length};
-ghost use Rattle.contacts.specs.Ruling.{tableFrom};
-ghost use Rattle.receiver.specs.Events.{ofParts};
+ghost use Rattle.contacts.specs.Ruling.{arraysFrom};
+ghost use Rattle.receiver.specs.Receive.{ofParts};
 ghost use Rattle.intake.specs.Feeding.{entryBytes};
 ghost use Rattle.bursts.specs.Batch.{messagesIn, batched, ReceivesAll};
 
@@ -76,8 +76,9 @@ pub fn receive_all_parts(
     states: &mut [u8; 256],
     xs: &mut [i32; 256],
     ys: &mut [i32; 256],
+    held: &mut [u8; 256],
 ) -> BatchTurn
-    ensures { λ r. ⌜ ReceivesAll (ofParts marks (tableFrom (now (states .entry)) (now (xs .entry)) (now (ys .entry)))) (now (buffer .entry)) (ofParts (r .marks) (tableFrom (now (states .exit)) (now (xs .exit)) (now (ys .exit)))) (r .batch) (now (answers .entry)) (now (answers .exit)) (now (output .entry)) (now (output .exit)) ⌝ }
+    ensures { λ r. ⌜ ReceivesAll (ofParts marks (arraysFrom (now (states .entry)) (now (xs .entry)) (now (ys .entry)) (now (held .entry)))) (now (buffer .entry)) (ofParts (r .marks) (arraysFrom (now (states .exit)) (now (xs .exit)) (now (ys .exit)) (now (held .exit)))) (r .batch) (now (answers .entry)) (now (answers .exit)) (now (output .entry)) (now (output .exit)) ⌝ }
 {
     if !is_batch(buffer, answers.len()) {
         return BatchTurn {
@@ -89,7 +90,7 @@ pub fn receive_all_parts(
             },
         };
     }
-    let fed = intake::feed_parts(marks, buffer, 0, answers, output, states, xs, ys);
+    let fed = intake::feed_parts(marks, buffer, 0, answers, output, states, xs, ys, held);
     let after = fed.marks;
     BatchTurn {
         marks: after,
@@ -113,6 +114,7 @@ pub fn receive_all(
     let mut states = receiver.states;
     let mut xs = receiver.xs;
     let mut ys = receiver.ys;
+    let mut held = receiver.held;
     let marks = receiver::marks_of(receiver);
     let turn = receive_all_parts(
         marks,
@@ -122,10 +124,11 @@ pub fn receive_all(
         &mut states,
         &mut xs,
         &mut ys,
+        &mut held,
     );
     let batch = turn.batch;
     ReceivedAll {
-        receiver: receiver::of_parts(turn.marks, states, xs, ys),
+        receiver: receiver::of_parts(turn.marks, states, xs, ys, held),
         batch: batch,
     }
 }

@@ -11,10 +11,10 @@ use lib.ListN.{length, getD}
 use Rattle.formats.specs.Format.{Got, got, bad}
 use Rattle.states.specs.Table.{out, next}
 use Rattle.house.specs.declared.Contact.{Contact}
-use Rattle.machine.specs.Table.{contacts, resting, stateAt, placeAt, active, one, countActive}
+use Rattle.machine.specs.Table.{Table, contacts, resting, stateAt, placeAt, active, one, countActive}
 use Rattle.machine.specs.Rules.{Rules}
 use Rattle.machine.specs.Conforms.{every, distinct, tableAfter, conforms}
-use Rattle.machine.specs.Machine.{Machine, opening, Verdict, injected, ignored, cancelled, verdict}
+use Rattle.machine.specs.Machine.{Verdict, injected, ignored, cancelled, verdictBy}
 use Rattle.contacts.specs.Touch.{touchView, touchRules}
 use Rattle.contacts.specs.Ruling.{ofRead, tableFrom, legalIn, staysIn, allowedIn, came, gone, unlawful, surveyed, CountsActive, Counted, judgedAs, refused, judgedOf, rulingAs, rulingOf, unread}
 use Rattle.contacts.specs.declared.Survey.{Survey}
@@ -101,69 +101,63 @@ module _ (most : ℕ) (states : List ℕ) (xs ys : List ℤ) where
       record { fits = omega (arith, n, ec, eg, q .same); same = rw (m, conforming cs, w) }
   decided (bad x) k v e h i q = never (sym h ∙ ap (λ (i : Survey). i .lawful) e)
 
-  -- ---- the ruling, where o is whether the frame is judged
+  -- ---- the ruling of a frame that is judged
 
-  abbrev ruling : Bool → Got (List Contact) → Ruling
-  ruling running = ofRead (unread running) (rulingOf (touchRules most) (record { table = tableFrom states xs ys; running = running }))
+  abbrev ruling : Got (List Contact) → Ruling
+  ruling = ofRead (unread true) (rulingOf true (touchRules most) (tableFrom states xs ys))
 
-  abbrev judges : Bool → Got (List Contact) → Bool
-  judges running x = cond running true (ofRead false (opening touchView) x)
-
-  pub ignores : (running : Bool) (x : Got (List Contact)) (o : Bool) → o ≡ judges running x → o ≡ false → Ruling.Ignored ≡ ruling running x
-  unfolding rulingOf verdict
-  ignores running (got cs t) o eo ho = rw (sym eo ∙ ho)
-  ignores true (bad x) o eo ho = never (sym eo ∙ ho)
-  ignores false (bad x) o eo ho = refl
-
-  pub injects : (running : Bool) (x : Got (List Contact)) (o : Bool) (j : Judged) → o ≡ judges running x → o ≡ true → j ≡ ofRead refused judged x → j .conforms ≡ true
-      → Ruling.Injected (j .active) ≡ ruling running x
-  unfolding judgedOf rulingOf verdict
-  injects running (bad x) o j eo ho e h = never (sym h ∙ ap (λ (i : Judged). i .conforms) e)
-  injects running (got cs t) o j eo ho e h =
+  pub injects : (x : Got (List Contact)) (j : Judged) → j ≡ ofRead refused judged x → j .conforms ≡ true → Ruling.Injected (j .active) ≡ ruling x
+  unfolding judgedOf rulingOf
+  injects (bad x) j e h = never (sym h ∙ ap (λ (i : Judged). i .conforms) e)
+  injects (got cs t) j e h =
       let b = conforms touchView (touchRules most) (tableFrom states xs ys) cs in
       let k = countActive (tableAfter touchView next (tableFrom states xs ys) cs .states) in
       let w = same-conforms b k j e ∙ h in
-      rw (sym eo ∙ ho, w) (ap Ruling.Injected (same-active b k j e w))
+      rw w (ap Ruling.Injected (same-active b k j e w))
 
-  pub cancelling : (running : Bool) (x : Got (List Contact)) (o : Bool) (j : Judged) → o ≡ judges running x → o ≡ true → j ≡ ofRead refused judged x → j .conforms ≡ false
-      → Ruling.Cancelled ≡ ruling running x
-  unfolding judgedOf rulingOf verdict
-  cancelling running (got cs t) o j eo ho e h = rw (sym eo ∙ ho, same-conforms (conforms touchView (touchRules most) (tableFrom states xs ys) cs) _ j e ∙ h)
-  cancelling true (bad x) o j eo ho e h = refl
-  cancelling false (bad x) o j eo ho e h = never (sym ho ∙ eo)
+  pub cancelling : (x : Got (List Contact)) (j : Judged) → j ≡ ofRead refused judged x → j .conforms ≡ false → Ruling.Cancelled ≡ ruling x
+  unfolding judgedOf rulingOf
+  cancelling (got cs t) j e h = rw (same-conforms (conforms touchView (touchRules most) (tableFrom states xs ys) cs) _ j e ∙ h)
+  cancelling (bad x) j e h = refl
+
+-- .. and of one that is not
+pub ignores : (rules : Rules Contact) (t : Table) (x : Got (List Contact)) → Ruling.Ignored ≡ ofRead (unread false) (rulingOf false rules t) x
+unfolding rulingOf
+ignores rules t (got cs l) = refl
+ignores rules t (bad x) = refl
 
 -- ---- what a caller learns of a ruling
 
-module _ (rules : Rules Contact) (m : Machine) (cs : List Contact) where
+module _ (judged : Bool) (rules : Rules Contact) (t : Table) (cs : List Contact) where
   abbrev then : ℕ
-  then = countActive (tableAfter touchView (rules .next) (m .table) cs .states)
+  then = countActive (tableAfter touchView (rules .next) t cs .states)
 
   -- the number of active contacts after an injected frame
   pub record Injection (k : ℕ) : Type 0 where
-    pub verdict : verdict touchView rules m cs ≡ injected
-    pub active : k ≡ countActive (tableAfter touchView (rules .next) (m .table) cs .states)
+    pub verdict : verdictBy touchView judged rules t cs ≡ injected
+    pub active : k ≡ countActive (tableAfter touchView (rules .next) t cs .states)
 
-  pub ruled-injected : (k : ℕ) → Ruling.Injected k ≡ rulingOf rules m cs → Injection k
+  pub ruled-injected : (k : ℕ) → Ruling.Injected k ≡ rulingOf judged rules t cs → Injection k
   unfolding rulingOf
-  ruled-injected k e = go (verdict touchView rules m cs) refl e
+  ruled-injected k e = go (verdictBy touchView judged rules t cs) refl e
     where
-      go : (v : Verdict) → verdict touchView rules m cs ≡ v → Ruling.Injected k ≡ rulingAs v then → Injection k
+      go : (v : Verdict) → verdictBy touchView judged rules t cs ≡ v → Ruling.Injected k ≡ rulingAs v then → Injection k
       go injected w e = record { verdict = w; active = cc }
       go ignored w e = absurd (let z : _≡_ {A = ℕ} 0 1 = cc in omega arith)
       go cancelled w e = absurd (let z : _≡_ {A = ℕ} 0 1 = cc in omega arith)
 
-  pub ruled-ignored : Ruling.Ignored ≡ rulingOf rules m cs → verdict touchView rules m cs ≡ ignored
+  pub ruled-ignored : Ruling.Ignored ≡ rulingOf judged rules t cs → verdictBy touchView judged rules t cs ≡ ignored
   unfolding rulingOf
-  ruled-ignored e = go (verdict touchView rules m cs) e
+  ruled-ignored e = go (verdictBy touchView judged rules t cs) e
     where
       go : (v : Verdict) → Ruling.Ignored ≡ rulingAs v then → v ≡ ignored
       go injected e = absurd (let z : _≡_ {A = ℕ} 0 1 = cc in omega arith)
       go ignored e = refl
       go cancelled e = absurd (let z : _≡_ {A = ℕ} 0 1 = cc in omega arith)
 
-  pub ruled-cancelled : Ruling.Cancelled ≡ rulingOf rules m cs → verdict touchView rules m cs ≡ cancelled
+  pub ruled-cancelled : Ruling.Cancelled ≡ rulingOf judged rules t cs → verdictBy touchView judged rules t cs ≡ cancelled
   unfolding rulingOf
-  ruled-cancelled e = go (verdict touchView rules m cs) e
+  ruled-cancelled e = go (verdictBy touchView judged rules t cs) e
     where
       go : (v : Verdict) → Ruling.Cancelled ≡ rulingAs v then → v ≡ cancelled
       go injected e = absurd (let z : _≡_ {A = ℕ} 0 1 = cc in omega arith)

@@ -21,9 +21,8 @@ use Rattle.recordings.specs.Records.{contactRecord}
 use Rattle.recordings.proofs.Records.{contact-law as record-law}
 use Rattle.machine.specs.Table.{contacts}
 use Rattle.machine.specs.Conforms.{every}
-use Rattle.machine.specs.Machine.{isDown, opening}
 use Rattle.contacts.specs.Touch.{touchView}
-use Rattle.contacts.specs.Ruling.{source, contactsBy, contactsOf, ofRead}
+use Rattle.contacts.specs.Ruling.{source, contactsBy, ofRead}
 use Rattle.machine.proofs.Conforms.{inTable}
 
 module _ (format : Format Contact) {A : Type 0} (z : A) (f : List Contact → A) where
@@ -58,24 +57,6 @@ module _ (format : Format Contact) {A : Type 0} (z : A) (f : List Contact → A)
 pub read-same : {A : Type 0} (z : A) (f g : List Contact → A) → ((cs : List Contact) → f cs ≡ g cs) → (x : Got (List Contact)) → ofRead z f x ≡ ofRead z g x
 read-same z f g h (got cs t) = h cs
 read-same z f g h (bad e) = refl
-
--- a frame of at least one contact is opening where each is down
-pub read-opening : (n : ℕ) (l : List ℕ) → 0 < n → ofRead false (opening touchView) (contactsOf n l) ≡ ofRead false (every (isDown touchView)) (contactsOf n l)
-unfolding readSeries opening
-read-opening zero l h = absurd (omega arith)
-read-opening (suc n) l h = go (contact taken .read l)
-  where
-    on : (c : Contact) (x : Got (List Contact)) → ofRead false (opening touchView) (andThen x (λ cs u. got (c ∷ cs) u)) ≡ ofRead false (every (isDown touchView)) (andThen x (λ cs u. got (c ∷ cs) u))
-    on c (got cs t) = refl
-    on c (bad e) = refl
-
-    go : (x : Got Contact) → ofRead false (opening touchView) (andThen x (λ c t. andThen (contactsOf n t) (λ cs u. got (c ∷ cs) u))) ≡ ofRead false (every (isDown touchView)) (andThen x (λ c t. andThen (contactsOf n t) (λ cs u. got (c ∷ cs) u)))
-    go (got c t) = on c (contactsOf n t)
-    go (bad e) = refl
-
-pub read-none : (n : ℕ) (l : List ℕ) → n ≡ 0 → ofRead false (opening touchView) (contactsOf n l) ≡ false
-unfolding opening
-read-none n l h = read-end (contact taken) false (opening touchView) n l (omega arith)
 
 -- ---- ids are bytes: of a lawful format that holds no others, and so wherever contacts are read
 

@@ -2,7 +2,7 @@
 -- Assumes nothing.
 use Prim.Native.Nat.{ℕ}
 use mathlib.Core.Path.{_≡_, sym, _∙_}
-use mathlib.Core.Bool.{Bool, false}
+use mathlib.Core.Bool.{Bool}
 use mathlib.Core.List.{List}
 use Rattle.formats.specs.Format.{Got}
 use Rattle.formats.specs.Answer.{Answers}
@@ -12,9 +12,7 @@ use Rattle.touch.specs.declared.ReadContact.{ReadContact}
 use Rattle.touch.proofs.Unique.{contact-answer-unique}
 use Rattle.machine.specs.Table.{Table}
 use Rattle.machine.specs.Rules.{Rules}
-use Rattle.machine.specs.Machine.{Machine, opening}
-use Rattle.contacts.specs.Touch.{touchView}
-use Rattle.contacts.specs.Ruling.{source, CountsActive, Counted, ofRead, Judges, Decides}
+use Rattle.contacts.specs.Ruling.{source, CountsActive, Counted, Judges, Decides}
 use Rattle.contacts.specs.declared.Judged.{Judged}
 use Rattle.contacts.specs.declared.Ruling.{Ruling}
 
@@ -29,11 +27,8 @@ pub read-contact-unique : (recorded : Bool) (l : List ℕ) (a b : ReadContact)
 read-contact-unique recorded = contact-answer-unique (source recorded)
 
 module _ (x : Got (List Contact)) where
-  pub is-opening-unique : (a b : Bool) → a ≡ ofRead false (opening touchView) x → b ≡ ofRead false (opening touchView) x → a ≡ b
-  is-opening-unique a b e f = e ∙ sym f
-
   pub judge-unique : (rules : Rules Contact) (t : Table) (active : ℕ) (a b : Judged) → Counted active (t .states) → Judges rules t active x a → Judges rules t active x b → a ≡ b
   judge-unique rules t active a b k e f = e k ∙ sym (f k)
 
-  pub verdict-of-unique : (rules : Rules Contact) (m : Machine) (active : ℕ) (a b : Ruling) → Counted active (m .table .states) → Decides rules m active x a → Decides rules m active x b → a ≡ b
-  verdict-of-unique rules m active a b k e f = e k ∙ sym (f k)
+  pub verdict-of-unique : (judged : Bool) (rules : Rules Contact) (t : Table) (active : ℕ) (a b : Ruling) → Counted active (t .states) → Decides judged rules t active x a → Decides judged rules t active x b → a ≡ b
+  verdict-of-unique judged rules t active a b k e f = e k ∙ sym (f k)

@@ -15,7 +15,7 @@ use Rattle.recordings.specs.Records.{contactRecord}
 use Rattle.machine.specs.Table.{Table, contacts, active, one, countActive}
 use Rattle.machine.specs.Rules.{Rules}
 use Rattle.machine.specs.Conforms.{every, distinct, legal, stays, tableAfter, conforms}
-use Rattle.machine.specs.Machine.{Machine, Verdict, injected, ignored, cancelled, verdict}
+use Rattle.machine.specs.Machine.{Arrays, Verdict, injected, ignored, cancelled, verdictBy}
 use Rattle.contacts.specs.Touch.{touchView}
 use Rattle.contacts.specs.declared.Survey.{Survey}
 use Rattle.contacts.specs.declared.Judged.{Judged}
@@ -42,6 +42,10 @@ ofRead z f (bad e) = z
 -- a table as it is lent
 abbrev pub tableFrom : List ℕ → List ℤ → List ℤ → Table
 tableFrom states xs ys = record { states = states; xs = xs; ys = ys }
+
+-- .. with its set
+abbrev pub arraysFrom : List ℕ → List ℤ → List ℤ → List ℕ → Arrays
+arraysFrom states xs ys held = record { table = tableFrom states xs ys; held = held }
 
 -- the rules of one contact, over the arrays that each looks at
 abbrev pub legalIn : List ℕ → Contact → Bool
@@ -102,17 +106,17 @@ rulingAs injected k = Ruling.Injected k
 rulingAs ignored k = Ruling.Ignored
 rulingAs cancelled k = Ruling.Cancelled
 
-unfoldable pub rulingOf : Rules Contact → Machine → List Contact → Ruling
-rulingOf rules m cs = rulingAs (verdict touchView rules m cs) (countActive (tableAfter touchView (rules .next) (m .table) cs .states))
+unfoldable pub rulingOf : Bool → Rules Contact → Table → List Contact → Ruling
+rulingOf judged rules t cs = rulingAs (verdictBy touchView judged rules t cs) (countActive (tableAfter touchView (rules .next) t cs .states))
 
--- contacts that cannot be read conform to nothing and open nothing
+-- contacts that cannot be read conform to nothing
 abbrev pub unread : Bool → Ruling
-unread running = cond running Ruling.Cancelled Ruling.Ignored
+unread judged = cond judged Ruling.Cancelled Ruling.Ignored
 
 -- ---- the promises, of contacts that are read as x; the number of active contacts is to be the table's
 
 abbrev pub Judges : Rules Contact → Table → ℕ → Got (List Contact) → Judged → Type 0
 Judges rules t active x r = Counted active (t .states) → r ≡ ofRead refused (judgedOf rules t) x
 
-abbrev pub Decides : Rules Contact → Machine → ℕ → Got (List Contact) → Ruling → Type 0
-Decides rules m active x r = Counted active (m .table .states) → r ≡ ofRead (unread (m .running)) (rulingOf rules m) x
+abbrev pub Decides : Bool → Rules Contact → Table → ℕ → Got (List Contact) → Ruling → Type 0
+Decides judged rules t active x r = Counted active (t .states) → r ≡ ofRead (unread judged) (rulingOf judged rules t) x

@@ -1,8 +1,14 @@
-// How many contacts are active.
+// How many contacts there are, and how many of them are active.
 ghost use mathlib.Core.Path.{_≡_};
 ghost use Prim.Native.Nat.{_≤_};
-ghost use Rattle.machine.specs.Table.{active, one};
+ghost use lib.ListN.{length};
+ghost use Rattle.machine.specs.Table.{contacts, active, one};
 ghost use Rattle.contacts.specs.Ruling.{CountsActive, Counted};
+
+// Does nothing: an array by value has the length that its type says, which a proof cannot tell of one that is lent. Nothing of it is compiled.
+pub fn is_whole(bytes: [u8; 256])
+    ensures { λ _. ⌜ length bytes ≡ contacts ⌝ }
+{}
 
 // A state counts as one where it is active.
 pub(crate) fn one_if_active(state: u8) -> u16

@@ -2,14 +2,11 @@
 use crate::Judged;
 use crate::Ruling;
 use crate::Survey;
-use crate::rules;
 use crate::scan::survey;
 ghost use mathlib.Core.Path.{_≡_};
-ghost use mathlib.Core.Bool.{true, false, cond};
 ghost use Prim.Native.Nat.{_+_, _-_, _≤_};
-ghost use Rattle.machine.specs.Machine.{opening};
-ghost use Rattle.contacts.specs.Touch.{touchView, touchRules};
-ghost use Rattle.contacts.specs.Ruling.{source, contactsBy, contactsOf, ofRead, tableFrom, judgedAs, Judges, Decides};
+ghost use Rattle.contacts.specs.Touch.{touchRules};
+ghost use Rattle.contacts.specs.Ruling.{source, contactsBy, contactsOf, tableFrom, judgedAs, Judges, Decides};
 
 // At most so many contacts are active after the frame.
 fn settle(found: Survey, active: u16, most: u16) -> Judged
@@ -59,19 +56,9 @@ pub fn judge(
     }
 }
 
-// Whether a frame of n contacts is judged at all: running, or opening.
-fn is_judged(running: bool, rest: &[u8], n: u16) -> bool
-    ensures { λ r. ⌜ r ≡ cond running true (ofRead false (opening touchView) (contactsOf n (now (rest .entry)))) ⌝ }
-{
-    if running {
-        return true;
-    }
-    rules::is_opening(rest, n)
-}
-
-// What becomes of a frame of n contacts, running or ignoring.
+// What becomes of a frame of n contacts, which is judged or is not.
 pub fn verdict_of(
-    running: bool,
+    judged: bool,
     rest: &[u8],
     n: u16,
     states: &[u8; 256],
@@ -80,12 +67,12 @@ pub fn verdict_of(
     most: u16,
     active: u16,
 ) -> Ruling
-    ensures { λ r. ⌜ Decides (touchRules most) (record { table = tableFrom (now (states .entry)) (now (xs .entry)) (now (ys .entry)); running = running }) active (contactsOf n (now (rest .entry))) r ⌝ }
+    ensures { λ r. ⌜ Decides judged (touchRules most) (tableFrom (now (states .entry)) (now (xs .entry)) (now (ys .entry))) active (contactsOf n (now (rest .entry))) r ⌝ }
 {
-    if is_judged(running, rest, n) {
-        let judged = judge(rest, n, false, states, xs, ys, most, active);
-        if judged.conforms {
-            return Ruling::Injected(judged.active);
+    if judged {
+        let found = judge(rest, n, false, states, xs, ys, most, active);
+        if found.conforms {
+            return Ruling::Injected(found.active);
         }
         return Ruling::Cancelled;
     }

@@ -7,9 +7,9 @@ mod source;
 
 pub use counts::active_in;
 pub use counts::count_active;
+pub use counts::is_whole;
 pub use judging::judge;
 pub use judging::verdict_of;
-pub use rules::is_opening;
 pub use source::read_contact;
 
 // What one pass over a frame's contacts finds: whether the rules of single contacts hold and no id is there twice; and how many of

@@ -1,16 +1,12 @@
-// The rules that a contact of a frame obeys, and whether a frame is opening.
+// The rules that a contact of a frame obeys.
 use house::Contact;
 use house::Point;
-use touch::ReadContact;
 ghost use mathlib.Core.Path.{_≡_};
-ghost use mathlib.Core.Bool.{false};
 ghost use mathlib.Core.List.{[]};
 ghost use Rattle.machine.specs.Table.{placeAt};
 ghost use Rattle.tables.specs.Same.{sameNumber};
-ghost use Rattle.machine.specs.Conforms.{every, lifts, samePlace};
-ghost use Rattle.machine.specs.Machine.{isDown, opening};
-ghost use Rattle.contacts.specs.Touch.{touchView};
-ghost use Rattle.contacts.specs.Ruling.{contactsOf, ofRead, tableFrom, legalIn, staysIn, allowedIn};
+ghost use Rattle.machine.specs.Conforms.{lifts, samePlace};
+ghost use Rattle.contacts.specs.Ruling.{tableFrom, legalIn, staysIn, allowedIn};
 
 // Whether a contact's flags lead to a state from the one that it has.
 fn is_legal(contact: Contact, states: &[u8; 256]) -> bool
@@ -73,35 +69,4 @@ pub(crate) fn is_allowed(
         return is_in_place(contact, xs, ys);
     }
     false
-}
-
-// Each contact has 0x19.
-fn all_down(rest: &[u8], n: u16) -> bool
-    ensures { λ r. ⌜ r ≡ ofRead false (every (isDown touchView)) (contactsOf n (now (rest .entry))) ⌝ }
-{
-    let mut at: usize = 0;
-    let mut left = n;
-    while 0 < left {
-        let got = touch::read_contact(&rest[at..], false);
-        let ReadContact::Value(contact, k) = got else {
-            return false;
-        };
-        if contact.flags == 0x19 {
-            at += k;
-            left -= 1;
-        } else {
-            return false;
-        }
-    }
-    true
-}
-
-// Whether a frame is opening: it has at least one contact, and each has 0x19.
-pub fn is_opening(rest: &[u8], n: u16) -> bool
-    ensures { λ r. ⌜ r ≡ ofRead false (opening touchView) (contactsOf n (now (rest .entry))) ⌝ }
-{
-    if n == 0 {
-        return false;
-    }
-    all_down(rest, n)
 }

@@ -14,10 +14,12 @@ use Rattle.messages.specs.Header.{oneOf, clientReady, touch, dismiss}
 use Rattle.messages.proofs.Laws.{one-of-first, one-of-later, dismiss-law}
 use Rattle.messages.proofs.RoundTrip.{round-trips}
 use Rattle.machine.specs.Table.{stateAt}
+use Rattle.machine.specs.Machine.{dismissTable}
+use Rattle.machine.proofs.Held.{without-nobody}
 use Rattle.channel.specs.Marks.{off}
 use Rattle.sending.specs.Panel.{panelTable, dismissSending}
 use Rattle.sending.specs.declared.Panel.{Panel}
-use Rattle.receiver.specs.Receive.{takes, dismissedBy, effect}
+use Rattle.receiver.specs.Receive.{marksOf, ofParts, takes, dismissedBy, effect}
 use Rattle.receiver.proofs.Invariants.{dismissed-kept}
 use Rattle.delivery.specs.Delivery.{dismissal, mirror}
 use Rattle.slices.proofs.Drafts.{passed, spared}
@@ -39,7 +41,10 @@ dismiss-understood p id l m h =
       effect = dismissedBy (mirror p) id;
       read = rw (k .head, k .body);
       counts = refl;
-      receiver = refl;
+      receiver =
+          ap
+          (λ (held : List ℕ). ofParts (marksOf (mirror p)) (record { table = dismissTable (panelTable p) id; held = held }))
+          (without-nobody id);
       bytes = refl;
       kept = dismissed-kept (mirror p) id (d .0);
     }

@@ -32,7 +32,7 @@ use Rattle.writing.proofs.RoundTrip.{written, written-reads}
 use Rattle.reading.specs.Plain.{plainly}
 use Rattle.channel.specs.Marks.{off, mark, untimedBy, judgedBy}
 use Rattle.machine.specs.Machine.{allConform}
-use Rattle.machine.proofs.Conforming.{allInjected, all-running, all-bytes, all-counts, timed-machine, timed-conform}
+use Rattle.machine.proofs.Conforming.{allInjected, all-running, all-held, all-bytes, all-counts, timed-machine, timed-conform}
 use Rattle.contacts.specs.Touch.{touchView}
 use Rattle.sending.specs.Panel.{panelRules, panelMachine, offsetStands, sendingDraft, framesSending, touchSending, touchedBy}
 use Rattle.sending.specs.declared.Panel.{Panel}
@@ -81,6 +81,7 @@ module _ (p : Panel) (time : Milliseconds) (fs : List (Frame Contact)) (c : allC
   touched-receiver =
       let a = timed-machine touchView (panelRules p) (untimed p) (panelMachine p) fs in
       let r = ap (λ (b : Bool). mark (not b)) (all-running touchView (panelRules p) (panelMachine p) (timedFrames (untimed p) fs) refl timed) in
+      let h = all-held touchView (panelRules p) (panelMachine p) (timedFrames (untimed p) fs) refl timed in
       λ i. record {
         ready = p .ready;
         begun = touchedBy p fs .begun;
@@ -89,6 +90,7 @@ module _ (p : Panel) (time : Milliseconds) (fs : List (Frame Contact)) (c : allC
         states = a i .table .states;
         xs = a i .table .xs;
         ys = a i .table .ys;
+        held = h i;
       }
 
   -- "those that the panel was given (offsets 0 with ready flag 2)"

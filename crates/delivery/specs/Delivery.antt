@@ -17,12 +17,12 @@ use Rattle.framing.specs.Frame.{Frame, timedFrames, framesBytes}
 use Rattle.touch.specs.Touch.{touchRecord}
 use Rattle.recordings.specs.Records.{framesIn}
 use Rattle.channel.specs.Marks.{untimedBy}
-use Rattle.machine.specs.Machine.{dismissBytes}
+use Rattle.machine.specs.Machine.{arraysIn, dismissBytes}
 use Rattle.contacts.specs.Touch.{touchView}
-use Rattle.sending.specs.Panel.{panelTable, freshPanel, Takes, Sending, readySending, touchSending, dismissSending, Sends}
+use Rattle.sending.specs.Panel.{panelTable, panelMachine, freshPanel, Takes, Sending, readySending, touchSending, dismissSending, Sends}
 use Rattle.sending.specs.declared.Panel.{Panel}
 use Rattle.receiver.specs.Limits.{mostOutput}
-use Rattle.receiver.specs.Receive.{fresh}
+use Rattle.receiver.specs.Receive.{ofParts, fresh}
 use Rattle.receiver.specs.declared.Receiver.{Receiver}
 use Rattle.demands.specs.Histories.{Calls, recordsLeft}
 use Rattle.demands.specs.Histories as host
@@ -79,7 +79,7 @@ Delivers (sent a before q w after ∷ cs) ds = cond (wrote w) (NextIs (take (w .
 
 -- the receiver that has what a panel has: "its table, settings, ready mark and first-frame mark are the panel's", and it is running
 abbrev pub mirror : Panel → Receiver
-mirror p = record { ready = p .ready; begun = p .begun; ignoring = 0; settings = p .settings; states = p .states; xs = p .xs; ys = p .ys }
+mirror p = ofParts (record { ready = p .ready; begun = p .begun; ignoring = 0; settings = p .settings }) (arraysIn (panelMachine p))
 
 abbrev pub framesOf : Got (List (Frame Contact)) → List (Frame Contact)
 framesOf (got fs t) = fs

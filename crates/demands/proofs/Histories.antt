@@ -15,12 +15,10 @@ use Rattle.house.specs.declared.Contact.{Contact}
 use Rattle.framing.specs.Frame.{Frame}
 use Rattle.machine.specs.Table.{contacts, stateAt, placeAt, origin}
 use Rattle.states.specs.Table.{out}
-use Rattle.contacts.specs.Touch.{touchView}
-use Rattle.stream.specs.Stream.{unopened}
 use Rattle.stream.specs.Path.{at}
 use Rattle.stream.specs.Asked.{All}
 use Rattle.receiver.specs.Receive.{fresh, Receives}
-use Rattle.receiver.specs.History.{Sent, OfBytes, messagesOf, next, answerTo, wrote, after, written, outcomes, Roomy, tableOf, touchIn, framesOf, framesTaken, Unopened, bytesAt, Silent, rested, recordsIn, path}
+use Rattle.receiver.specs.History.{Sent, OfBytes, messagesOf, next, answerTo, wrote, after, written, outcomes, Roomy, tableOf, touchIn, framesOf, framesTaken, UnopenedAfter, Unopened, bytesAt, Silent, rested, recordsIn, path}
 use Rattle.receiver.specs.declared.Receiver.{Receiver}
 use Rattle.receiver.specs.declared.Answer.{Answer}
 use Rattle.receiver.proofs.Records.{records-written}
@@ -34,7 +32,7 @@ use Rattle.demands.specs.Histories.{Call, Calls, History, last, recordsL
 abbrev pub sentBy : Call → Sent
 sentBy c = record { message = c .message; room = length (c .before) }
 
-abbrev Allowed : Receiver → Call → Type 0
+abbrev pub Allowed : Receiver → Call → Type 0
 Allowed r c = Receives r (c .message) (c .before) (c .receiver) (c .answer) (c .after)
 
 module _ (r : Receiver) (c : Call) (k : Allowed r c) where
@@ -54,7 +52,7 @@ module _ (r : Receiver) (c : Call) (k : Allowed r c) where
       (λ i. take (recordBytes * call-answer i .records) (call-step .2 i))
       ∙ take-at s (drop (length s) (c .before)) (recordBytes * answerTo r (sentBy c) .records) (sym (records-written r (sentBy c)))
 
-  call-frames : framesTaken r (sentBy c) ≡ accepted r c
+  pub call-frames : framesTaken r (sentBy c) ≡ accepted r c
   unfolding framesTaken accepted
   call-frames = ap (λ (a : Answer). cond (eqb (a .refusal) none) (framesOf (touchIn r (c .message))) []) (sym call-answer)
 
@@ -68,7 +66,7 @@ sent-messages : (cs : List Call) → messagesOf (sent cs) ≡ map (λ (c : Call)
 sent-messages [] = refl
 sent-messages (c ∷ cs) = ap (λ (l : List (List ℕ)). c .message ∷ l) (sent-messages cs)
 
-sent-bytes : (cs : List Call) → All (λ c. Bytes (c .message)) cs → OfBytes (sent cs)
+pub sent-bytes : (cs : List Call) → All (λ c. Bytes (c .message)) cs → OfBytes (sent cs)
 sent-bytes [] b = tt
 sent-bytes (c ∷ cs) b = (b .0, sent-bytes cs (b .1))
 
@@ -103,7 +101,7 @@ calls-unopened : (r : Receiver) (cs : List Call) → Calls r cs → NoneOpens r 
 unfolding Calls NoneOpens Unopened
 calls-unopened r [] k h = tt
 calls-unopened r (c ∷ cs) k h = (
-  ap (unopened touchView) (call-frames r c (k .0)) ∙ h .0,
+  subst (UnopenedAfter r []) (sym (call-frames r c (k .0))) (h .0),
   subst (λ (q : Receiver). Unopened q (sent cs)) (call-receiver r c (k .0)) (calls-unopened (c .receiver) cs (k .1) (h .1)),
 )
 
@@ -130,15 +128,15 @@ calls-silenced r c cs k fs f gs e u =
     record {
       records = calls-left r (c ∷ cs) k ∙ o .0;
       silent = s;
-      until = λ d kd ds hs a v. call-left q d (kd .0) ∙ a-silent-receiver-passes-over-frames-that-do-not-open q (sentBy d) ds hs s (call-frames q d (kd .0) ∙ a) v;
+      until = λ d kd ds hs a v p w. call-left q d (kd .0) ∙ a-silent-receiver-passes-over-frames-that-do-not-open q (sentBy d) ds hs s (call-frames q d (kd .0) ∙ a) v p w;
     }
 
 nothing-until-an-opening-frame : (r : Receiver) → NothingUntilAnOpeningFrame r
 unfolding Calls
 nothing-until-an-opening-frame r =
     record {
-      within = λ c k fs f gs hs e q s z.
-          call-left r c (k .0) ∙ after-a-cancelled-frame-nothing-until-an-opening-one r (sentBy c) fs f gs hs (call-frames r c (k .0) ∙ e .frames) (e .cancelled) (e .others) q s z .0;
+      within = λ c k fs f gs hs e q s.
+          call-left r c (k .0) ∙ after-a-cancelled-frame-nothing-until-an-opening-one r (sentBy c) fs f gs hs (call-frames r c (k .0) ∙ e .frames) (e .cancelled) (e .others) q s .0;
       after = calls-silenced r;
     }
 

@@ -3,5 +3,6 @@ pub mod RoundTrip
 pub mod FirstFault
 pub mod Padding
 pub mod Histories
+pub mod Hovering
 pub mod Whole
 pub mod Demands

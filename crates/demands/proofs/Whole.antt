@@ -37,6 +37,7 @@ use Rattle.machine.specs.Table.{Table, contacts, stateAt, placeAt, active}
 use Rattle.machine.specs.Machine.{Machine, cancelFlags, storedBytes, cancelBytes, cancelsFrom, dismissBytes, stepMachine, stepBytes, runBytes}
 use Rattle.machine.proofs.Machine.{cancel-active, cancel-out, dismiss-bytes, keep-bytes}
 use Rattle.contacts.specs.Touch.{bareContact, touchView}
+use Rattle.stream.specs.Set.{Happening}
 use Rattle.stream.specs.Asked.{All, FrameFits}
 use Rattle.stream.proofs.Steadiness.{Sound, beyond, Steady, Judged, injects, ignores, judged, step-steady}
 use Rattle.stream.proofs.Kept.{timed-fit}
@@ -159,7 +160,7 @@ module _ (x : Ready) where
     where
       go : {n : Machine} {s : List ℕ} → Judged touchView (touchProfile .rules x) m f n s → FramesWhole s
       go (injects c) = frame-whole f k
-      go ignores = ends
+      go (ignores i) = ends
       go Judged.cancels = cancels-whole (m .table) (h .table) contacts 0 (lit≤ tt)
 
   run-whole : (m : Machine) (fs : List (Frame Contact)) → Steady OneOfThree PlaceFits (touchProfile .rules x .most) m → All (FrameFits ContactRead) fs → FramesWhole (runBytes touchView (touchProfile .rules x) m fs)
@@ -171,7 +172,7 @@ module _ (x : Ready) where
       framed-then zero (stepBytes touchView (touchProfile .rules x) m f) (runBytes touchView (touchProfile .rules x) n fs) (step-whole m f h (k .0))
       (run-whole n fs (step-steady touch-law x m f fits h) (k .1))
 
-became-whole : (r : Receiver) (l : List ℕ) {q : Receiver} {s : List ℕ} {a : Answer} {fs : List (Frame Contact)} → Bytes l → Kept r → Became r l q s a fs → FramesWhole s
+became-whole : (r : Receiver) (l : List ℕ) {q : Receiver} {s : List ℕ} {a : Answer} {fs : List (Frame Contact)} {ds : List (Happening Contact)} → Bytes l → Kept r → Became r l q s a fs ds → FramesWhole s
 became-whole r l b k (refused n) = ends
 became-whole r l b k (settles s o) = ends
 became-whole r l b k (touches m t o e) =

@@ -19,12 +19,12 @@ use Rattle.framing.specs.Frame.{Frame}
 use Rattle.machine.specs.Table.{Table, contacts, stateAt, placeAt, origin}
 use Rattle.machine.specs.Machine.{cancels}
 use Rattle.contacts.specs.Touch.{touchView}
-use Rattle.stream.specs.Stream.{opens, unopened, NoneActive}
+use Rattle.stream.specs.Stream.{NoneActive}
 use Rattle.stream.specs.Path.{at}
 use Rattle.stream.specs.Asked.{All}
 use Rattle.receiver.specs.Receive.{fresh, Receives}
 use Rattle.channel.specs.Marks.{off}
-use Rattle.receiver.specs.History.{Outcome, tableOf, touchIn, framesOf, machineAt, bytesAt, CancelledAfter, Silent, rested, messageOf, Cut, recordsIn, path}
+use Rattle.receiver.specs.History.{Outcome, tableOf, touchIn, framesOf, machineAt, bytesAt, opensAfter, UnopenedAfter, CancelledAfter, Silent, SilentAs, rested, messageOf, Cut, recordsIn, path}
 use Rattle.receiver.specs.declared.Receiver.{Receiver}
 use Rattle.receiver.specs.declared.Answer.{Answer}
 
@@ -69,7 +69,7 @@ accepted r c = cond (eqb (c .answer .refusal) none) (framesOf (touchIn r (c .mes
 -- no opening frame is accepted
 unfoldable pub NoneOpens : Receiver → List Call → Type 0
 NoneOpens r [] = Unit
-NoneOpens r (c ∷ cs) = (unopened touchView (accepted r c) ≡ true) × NoneOpens (c .receiver) cs
+NoneOpens r (c ∷ cs) = UnopenedAfter r [] (accepted r c) × NoneOpens (c .receiver) cs
 
 -- ---- "For each contact, the records written are a legal path through the three states, starting out of range."
 
@@ -83,24 +83,24 @@ LegalPath h id = let t : Table = tableOf (last fresh h) in path id (recordsIn (a
 pub record Cancel (r : Receiver) (c : Call) (fs : List (Frame Contact)) (f : Frame Contact) (gs hs : List (Frame Contact)) : Type 0 where
   pub frames : accepted r c ≡ fs ++ (f ∷ (gs ++ hs))
   pub cancelled : CancelledAfter r fs f
-  pub others : unopened touchView gs ≡ true
+  pub others : UnopenedAfter r (fs ++ (f ∷ [])) gs
 
 -- the records of the frames fs, and the cancel's own
 abbrev pub upToCancel : Receiver → List (Frame Contact) → List ℕ
 upToCancel r fs = bytesAt r fs ++ cancels touchView (machineAt r fs .table)
 
--- after such a call, whose hs are none, and further calls cs: nothing but these records; the receiver is silent; and of the next call, with the
--- frames gs, of which none opens, and hs, it writes what it does of hs alone
+-- after such a call, whose hs are none, and further calls cs: nothing but these records; the receiver is silent; and the next call, with the frames
+-- gs, of which none opens, and hs, writes what hs alone write to a receiver that is silent and has the same settings and the set as it is there
 pub record Silenced (r : Receiver) (c : Call) (cs : List Call) (fs : List (Frame Contact)) : Type 0 where
   pub records : allLeft (c ∷ cs) ≡ upToCancel r fs
   pub silent : Silent (last r (c ∷ cs))
-  pub until : (d : Call) → Calls (last r (c ∷ cs)) (d ∷ []) → (gs hs : List (Frame Contact)) → accepted (last r (c ∷ cs)) d ≡ gs ++ hs → unopened touchView gs ≡ true
-      → recordsLeft d ≡ bytesAt (last r (c ∷ cs)) hs
+  pub until : (d : Call) → Calls (last r (c ∷ cs)) (d ∷ []) → (gs hs : List (Frame Contact)) → accepted (last r (c ∷ cs)) d ≡ gs ++ hs → UnopenedAfter (last r (c ∷ cs)) [] gs
+      → (q : Receiver) → SilentAs (last r (c ∷ cs)) gs q → recordsLeft d ≡ bytesAt q hs
 
 pub record NothingUntilAnOpeningFrame (r : Receiver) : Type 0 where
-  -- in the cancel's own message: what follows is what hs write to a receiver that is silent and has the same settings
+  -- in the cancel's own message: what follows is what hs write to a receiver that is silent and has the same settings and the set as it is there
   pub within : (c : Call) → Calls r (c ∷ []) → (fs : List (Frame Contact)) (f : Frame Contact) (gs hs : List (Frame Contact)) → Cancel r c fs f gs hs
-      → (q : Receiver) → Silent q → q .settings ≡ r .settings → recordsLeft c ≡ upToCancel r fs ++ bytesAt q hs
+      → (q : Receiver) → SilentAs r (fs ++ (f ∷ gs)) q → recordsLeft c ≡ upToCancel r fs ++ bytesAt q hs
   -- in that message and in all calls after it, as long as no opening frame is accepted
   pub after : (c : Call) (cs : List Call) → Calls r (c ∷ cs) → (fs : List (Frame Contact)) (f : Frame Contact) (gs : List (Frame Contact)) → Cancel r c fs f gs []
       → NoneOpens (c .receiver) cs → Silenced r c cs fs
@@ -134,7 +134,7 @@ pub record AsRestedFromAnOpeningFrame (r : Receiver) : Type 0 where
   -- with f; and then both are given the same messages
   pub same : (x y : Call) (more others : List Call) → Calls r (x ∷ more) → Calls (rested (r .settings)) (y ∷ others) → Bytes (x .message)
       → (fs : List (Frame Contact)) (f : Frame Contact) (gs : List (Frame Contact)) → Cut r (x .message) (y .message) fs f gs
-      → opens touchView f ≡ true → NoneActive (machineAt r fs .table)
+      → opensAfter r fs f ≡ true → NoneActive (machineAt r fs .table)
       → map (λ (c : Call). c .message) more ≡ map (λ (c : Call). c .message) others → HaveRoom (x ∷ more) → HaveRoom (y ∷ others)
       → SameFromThere r x y fs more others
   -- there always is such a message for y

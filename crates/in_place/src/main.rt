@@ -71,6 +71,7 @@ fn run_parts(file: &[u8], page: &mut [u8], output: &mut [u8]) -> usize {
     let mut states = receiver.states;
     let mut xs = receiver.xs;
     let mut ys = receiver.ys;
+    let mut held = receiver.held;
     let mut number: u64 = 1;
     let mut at: usize = 0;
     let mut from: usize = 0;
@@ -89,6 +90,7 @@ fn run_parts(file: &[u8], page: &mut [u8], output: &mut [u8]) -> usize {
             &mut states,
             &mut xs,
             &mut ys,
+            &mut held,
         );
         marks = turn.marks;
         at = add_line(page, at, number, turn.answer, marks, &states);

@@ -4,10 +4,10 @@ use Prim.Native.Nat.{ℕ}
 use mathlib.Core.Path.{_≡_, sym, _∙_}
 use mathlib.Core.List.{List}
 use native.Mathlib.Omega.{arith}
-use Rattle.machine.specs.Table.{Table}
+use Rattle.machine.specs.Machine.{Arrays}
 use Rattle.receiver.specs.declared.Receiver.{Receiver}
-use Rattle.receiver.specs.Events.{marksOf}
-use Rattle.receiver.specs.History.{Sent, tableOf}
+use Rattle.receiver.specs.Receive.{arraysOf, marksOf}
+use Rattle.receiver.specs.History.{Sent}
 use Rattle.intake.specs.Feeding.{Feeds, TakesEntries, fedOf}
 use Rattle.intake.specs.declared.Fed.{Fed}
 use Rattle.intake.specs.declared.FedParts.{FedParts}
@@ -29,8 +29,8 @@ pub take-entries-unique : (least : ℕ) (r : Receiver) (file : List ℕ) (f g : 
     → (f ≡ g) × (a ≡ b) × (o ≡ p)
 take-entries-unique least r file f g a₀ a b o₀ o p x y = feeds-unique r _ f g a₀ a b o₀ o p (x .fed) (y .fed)
 
--- .. and where the receiver is lent in parts, in its marks and in its contacts
-pub feed-parts-unique : (least : ℕ) (r : Receiver) (file : List ℕ) (f g : FedParts) (t u : Table) (a₀ a b o₀ o p : List ℕ) → TakesEntries least r file (fedOf f t) a₀ a o₀ o
+-- .. and where the receiver is lent in parts, in its marks, its contacts and its set
+pub feed-parts-unique : (least : ℕ) (r : Receiver) (file : List ℕ) (f g : FedParts) (t u : Arrays) (a₀ a b o₀ o p : List ℕ) → TakesEntries least r file (fedOf f t) a₀ a o₀ o
     → TakesEntries least r file (fedOf g u) a₀ b o₀ p → (f ≡ g) × (t ≡ u) × (a ≡ b) × (o ≡ p)
 feed-parts-unique least r file f g t u a₀ a b o₀ o p x y =
     let e = take-entries-unique least r file (fedOf f t) (fedOf g u) a₀ a b o₀ o p x y in (
@@ -40,7 +40,7 @@ feed-parts-unique least r file f g t u a₀ a b o₀ o p x y =
         used = e .0 i .used;
         records = e .0 i .records;
       },
-      λ i. tableOf (e .0 i .receiver),
+      λ i. arraysOf (e .0 i .receiver),
       e .1,
       e .2,
     )

@@ -10,8 +10,8 @@ use Rattle.entries.specs.Entries.{frontOf}
 use Rattle.entries.specs.declared.Front.{Front}
 use Rattle.entries.specs.declared.Front.the-variants as Front
 use Rattle.house.specs.Fields.{recordBytes}
-use Rattle.machine.specs.Table.{Table}
-use Rattle.receiver.specs.Events.{ofParts}
+use Rattle.machine.specs.Machine.{Arrays}
+use Rattle.receiver.specs.Receive.{ofParts}
 use Rattle.receiver.specs.History.{Sent, messagesOf, next, answerTo, wrote, after, written}
 use Rattle.receiver.specs.declared.Receiver.{Receiver}
 use Rattle.receiver.specs.declared.Answer.{Answer}
@@ -80,5 +80,5 @@ pub record TakesEntries (least : ℕ) (r : Receiver) (file : List ℕ) (f : Fed)
   pub room : recordBytes * f .records ≤ length o₀
 
 -- what is answered of a receiver that is lent in parts, with the contacts where they stand
-abbrev pub fedOf : FedParts → Table → Fed
-fedOf f t = record { receiver = ofParts (f .marks) t; entries = f .entries; used = f .used; records = f .records }
+abbrev pub fedOf : FedParts → Arrays → Fed
+fedOf f a = record { receiver = ofParts (f .marks) a; entries = f .entries; used = f .used; records = f .records }

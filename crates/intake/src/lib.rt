@@ -7,9 +7,8 @@ ghost use mathlib.Core.Path.{_≡_};
 ghost use Prim.Native.Nat.{_≤_, _<_};
 ghost use lib.ListN.{length};
 ghost use Rattle.slices.specs.Writing.{laid};
-ghost use Rattle.machine.specs.Table.{contacts};
-ghost use Rattle.contacts.specs.Ruling.{tableFrom};
-ghost use Rattle.receiver.specs.Events.{ofParts};
+ghost use Rattle.contacts.specs.Ruling.{arraysFrom};
+ghost use Rattle.receiver.specs.Receive.{ofParts};
 ghost use Rattle.intake.specs.Feeding.{nextIn, answerNumbers, numbersOf, fedOf, TakesEntries};
 
 // How many numbers an answer has: the refusal, frames injected, ignored and cancelled, encodeTime, records.
@@ -55,11 +54,6 @@ fn put_answer(answers: &mut [u32], answer: Answer)
     answers[5] = answer.records as u32;
 }
 
-// Does nothing: an array by value has the length that its type says, which a proof cannot tell of one that is lent. Nothing of it is compiled.
-fn is_whole(states: [u8; 256])
-    ensures { λ _. ⌜ length states ≡ contacts ⌝ }
-{}
-
 // The whole entries at the front of a part of a bench file, fed to a receiver that is lent in parts, so that its contacts are copied
 // for none of them.
 pub fn feed_parts(
@@ -71,10 +65,11 @@ pub fn feed_parts(
     states: &mut [u8; 256],
     xs: &mut [i32; 256],
     ys: &mut [i32; 256],
+    held: &mut [u8; 256],
 ) -> FedParts
-    ensures { λ r. ⌜ TakesEntries least (ofParts marks (tableFrom (now (states .entry)) (now (xs .entry)) (now (ys .entry)))) (now (file .entry)) (fedOf r (tableFrom (now (states .exit)) (now (xs .exit)) (now (ys .exit)))) (now (answers .entry)) (now (answers .exit)) (now (output .entry)) (now (output .exit)) ⌝ }
+    ensures { λ r. ⌜ TakesEntries least (ofParts marks (arraysFrom (now (states .entry)) (now (xs .entry)) (now (ys .entry)) (now (held .entry)))) (now (file .entry)) (fedOf r (arraysFrom (now (states .exit)) (now (xs .exit)) (now (ys .exit)) (now (held .exit)))) (now (answers .entry)) (now (answers .exit)) (now (output .entry)) (now (output .exit)) ⌝ }
 {
-    is_whole(*states);
+    contacts::is_whole(*states);
     let places = answers.len() / ANSWER_NUMBERS;
     let mut entries: usize = 0;
     let mut used: usize = 0;
@@ -88,7 +83,15 @@ pub fn feed_parts(
         let from = used + 2;
         let to = from + n;
         let message = &file[from..to];
-        let turn = receiver::receive_parts(marks, message, &mut output[end..], states, xs, ys);
+        let turn = receiver::receive_parts(
+            marks,
+            message,
+            &mut output[end..],
+            states,
+            xs,
+            ys,
+            held,
+        );
         let place = ANSWER_NUMBERS * entries;
         put_answer(&mut answers[place..], turn.answer);
         marks = turn.marks;
@@ -118,6 +121,7 @@ pub fn take_entries(
     let mut states = receiver.states;
     let mut xs = receiver.xs;
     let mut ys = receiver.ys;
+    let mut held = receiver.held;
     let marks = receiver::marks_of(receiver);
     let fed = feed_parts(
         marks,
@@ -128,9 +132,10 @@ pub fn take_entries(
         &mut states,
         &mut xs,
         &mut ys,
+        &mut held,
     );
     Fed {
-        receiver: receiver::of_parts(fed.marks, states, xs, ys),
+        receiver: receiver::of_parts(fed.marks, states, xs, ys, held),
         entries: fed.entries,
         used: fed.used,
         records: fed.records,

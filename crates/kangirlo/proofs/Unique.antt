@@ -14,12 +14,12 @@ use Rattle.reading.specs.declared.PlainAnswer.{PlainAnswer}
 use Rattle.reading.proofs.Unique.{read-unique}
 use Rattle.writing.specs.TouchDraft.{touchDraft}
 use Rattle.writing.proofs.Unique.{write-touch-unique}
-use Rattle.machine.specs.Table.{Table}
+use Rattle.machine.specs.Machine.{Arrays}
 use Rattle.receiver.specs.Receive.{fresh, Receives}
 use Rattle.receiver.specs.declared.Receiver.{Receiver}
 use Rattle.receiver.specs.declared.Answer.{Answer}
 use Rattle.receiver.specs.declared.Turn.{Turn}
-use Rattle.receiver.specs.Events.{ofParts}
+use Rattle.receiver.specs.Receive.{ofParts}
 use Rattle.receiver.proofs.Unique.{Same, fresh-unique, receive-unique, receive-parts-unique}
 use Rattle.bursts.specs.Batch.{ReceivesAll}
 use Rattle.bursts.specs.declared.Batch.{Batch}
@@ -38,9 +38,9 @@ pub record Calls : Type 0 where
       → Receives r message before p a s → Receives r message before q b t → Same p q a b s t
   pub kangirlo-receive-all : (r : Receiver) (buffer : List ℕ) (p q : Receiver) (b c : Batch) (a₀ a a′ o₀ o o′ : List ℕ)
       → ReceivesAll r buffer p b a₀ a o₀ o → ReceivesAll r buffer q c a₀ a′ o₀ o′ → SameBatch p q b c a a′ o o′
-  pub kangirlo-receive-parts : (r : Receiver) (message before : List ℕ) (m n : Turn) (t u : Table) (s k : List ℕ)
+  pub kangirlo-receive-parts : (r : Receiver) (message before : List ℕ) (m n : Turn) (t u : Arrays) (s k : List ℕ)
       → Receives r message before (ofParts (m .marks) t) (m .answer) s → Receives r message before (ofParts (n .marks) u) (n .answer) k → (m ≡ n) × (t ≡ u) × (s ≡ k)
-  pub kangirlo-receive-all-parts : (r : Receiver) (buffer : List ℕ) (m n : BatchTurn) (t u : Table) (a₀ a a′ o₀ o o′ : List ℕ)
+  pub kangirlo-receive-all-parts : (r : Receiver) (buffer : List ℕ) (m n : BatchTurn) (t u : Arrays) (a₀ a a′ o₀ o o′ : List ℕ)
       → ReceivesAll r buffer (ofParts (m .marks) t) (m .batch) a₀ a o₀ o → ReceivesAll r buffer (ofParts (n .marks) u) (n .batch) a₀ a′ o₀ o′
       → (m ≡ n) × (t ≡ u) × (a ≡ a′) × (o ≡ o′)
   pub kangirlo-plain : (message : List ℕ) (a b : PlainAnswer) (before after after′ : List ℕ)

@@ -18,9 +18,8 @@ ghost use Rattle.slices.specs.Writing.{Writes};
 ghost use Rattle.messages.specs.Bodies.{serverReadyDraft, clientReadyDraft, suspendDraft, resumeDraft, dismissDraft};
 ghost use Rattle.reading.specs.Plain.{ReadsPlainly, ReadsStrictly};
 ghost use Rattle.writing.specs.TouchDraft.{touchDraft};
-ghost use Rattle.contacts.specs.Ruling.{tableFrom};
-ghost use Rattle.receiver.specs.Events.{ofParts};
-ghost use Rattle.receiver.specs.Receive.{fresh, Receives};
+ghost use Rattle.contacts.specs.Ruling.{arraysFrom};
+ghost use Rattle.receiver.specs.Receive.{ofParts, fresh, Receives};
 ghost use Rattle.bursts.specs.Batch.{ReceivesAll};
 ghost use Rattle.kangirlo.specs.Flat.{flat, flattened, bare, flatHead, flatContact, refused as refusedRecord};
 
@@ -90,10 +89,11 @@ pub extern "C" fn kangirlo_receive_parts(
     states: &mut [u8; 256],
     xs: &mut [i32; 256],
     ys: &mut [i32; 256],
+    held: &mut [u8; 256],
 ) -> Turn
-    ensures { λ r. ⌜ Receives (ofParts marks (tableFrom (now (states .entry)) (now (xs .entry)) (now (ys .entry)))) (now (message .entry)) (now (output .entry)) (ofParts (r .marks) (tableFrom (now (states .exit)) (now (xs .exit)) (now (ys .exit)))) (r .answer) (now (output .exit)) ⌝ }
+    ensures { λ r. ⌜ Receives (ofParts marks (arraysFrom (now (states .entry)) (now (xs .entry)) (now (ys .entry)) (now (held .entry)))) (now (message .entry)) (now (output .entry)) (ofParts (r .marks) (arraysFrom (now (states .exit)) (now (xs .exit)) (now (ys .exit)) (now (held .exit)))) (r .answer) (now (output .exit)) ⌝ }
 {
-    receiver::receive_parts(marks, message, output, states, xs, ys)
+    receiver::receive_parts(marks, message, output, states, xs, ys, held)
 }
 
 // All entries of a buffer to a receiver that is lent in parts.
@@ -106,10 +106,11 @@ pub extern "C" fn kangirlo_receive_all_parts(
     states: &mut [u8; 256],
     xs: &mut [i32; 256],
     ys: &mut [i32; 256],
+    held: &mut [u8; 256],
 ) -> BatchTurn
-    ensures { λ r. ⌜ ReceivesAll (ofParts marks (tableFrom (now (states .entry)) (now (xs .entry)) (now (ys .entry)))) (now (buffer .entry)) (ofParts (r .marks) (tableFrom (now (states .exit)) (now (xs .exit)) (now (ys .exit)))) (r .batch) (now (answers .entry)) (now (answers .exit)) (now (output .entry)) (now (output .exit)) ⌝ }
+    ensures { λ r. ⌜ ReceivesAll (ofParts marks (arraysFrom (now (states .entry)) (now (xs .entry)) (now (ys .entry)) (now (held .entry)))) (now (buffer .entry)) (ofParts (r .marks) (arraysFrom (now (states .exit)) (now (xs .exit)) (now (ys .exit)) (now (held .exit)))) (r .batch) (now (answers .entry)) (now (answers .exit)) (now (output .entry)) (now (output .exit)) ⌝ }
 {
-    bursts::receive_all_parts(marks, buffer, answers, output, states, xs, ys)
+    bursts::receive_all_parts(marks, buffer, answers, output, states, xs, ys, held)
 }
 
 // A touch message read by itself.

@@ -11,7 +11,8 @@ use Rattle.framing.specs.Frame.{Frame, frameBytes, framesBytes, timedFrame, tim
 use Rattle.framing.proofs.Timed.{timed-contacts}
 use Rattle.machine.specs.Rules.{View, Rules}
 use Rattle.machine.specs.Conforms.{tableAfter, conforms}
-use Rattle.machine.specs.Machine.{Machine, opening, injected, ignored, cancelled, verdict, machineAfter, stepMachine, stepBytes, Counts, countOf, plus, runMachine, runBytes, runCounts, allConform}
+use Rattle.machine.specs.Held.{nobody, opening}
+use Rattle.machine.specs.Machine.{Machine, injected, ignored, cancelled, verdict, machineAfter, stepMachine, stepBytes, Counts, countOf, plus, runMachine, runBytes, runCounts, allConform}
 use Rattle.machine.proofs.Conforms.{both-left, both-right}
 use Rattle.machine.proofs.Machine.{injected-machine, injected-bytes}
 
@@ -25,11 +26,15 @@ module _ {C : Type 0} (view : View C) (rules : Rules C) where
   -- a frame that conforms is injected, the mode being running
   pub conforms-injected : (m : Machine) (cs : List C) → m .running ≡ true → conforms view rules (m .table) cs ≡ true → verdict view rules m cs ≡ injected
   unfolding verdict
-  conforms-injected m cs r h = ap (λ b. cond (cond b true (opening view cs)) (cond (conforms view rules (m .table) cs) injected cancelled) ignored) r ∙ rw h
+  conforms-injected m cs r h =
+      ap (λ b. cond (cond b true (opening view (m .held) cs)) (cond (conforms view rules (m .table) cs) injected cancelled) ignored) r ∙ rw h
 
   pub conforms-machine : (m : Machine) (f : Frame C) → m .running ≡ true → conforms view rules (m .table) (f .contacts) ≡ true
-      → stepMachine view rules m f ≡ record { table = tableAfter view (rules .next) (m .table) (f .contacts); running = true }
-  conforms-machine m f r h = injected-machine view rules m f (conforms-injected m (f .contacts) r h)
+      → stepMachine view rules m f ≡ record { table = tableAfter view (rules .next) (m .table) (f .contacts); running = true; held = m .held }
+  conforms-machine m f r h =
+      let t = tableAfter view (rules .next) (m .table) (f .contacts) in
+      injected-machine view rules m f (conforms-injected m (f .contacts) r h)
+      ∙ ap (λ b. record { table = t; running = true; held = cond b (m .held) nobody }) r
 
   conforms-bytes : (m : Machine) (f : Frame C) → m .running ≡ true → conforms view rules (m .table) (f .contacts) ≡ true
       → stepBytes view rules m f ≡ frameBytes (view .bytes touched) f
@@ -54,6 +59,14 @@ module _ {C : Type 0} (view : View C) (rules : Rules C) where
   unfolding runMachine
   all-running m [] r h = r
   all-running m (f ∷ fs) r h = all-running (stepMachine view rules m f) fs (still-running m f r (first-conforms m f fs h)) (others-conform m f fs h)
+
+  -- .. and the set is as it was
+  pub all-held : (m : Machine) (fs : List (Frame C)) → m .running ≡ true → allConform view rules m fs ≡ true → runMachine view rules m fs .held ≡ m .held
+  unfolding runMachine
+  all-held m [] r h = refl
+  all-held m (f ∷ fs) r h =
+      let c = first-conforms m f fs h in
+      all-held (stepMachine view rules m f) fs (still-running m f r c) (others-conform m f fs h) ∙ ap (λ (n : Machine). n .held) (conforms-machine m f r c)
 
   pub all-bytes : (m : Machine) (fs : List (Frame C)) → m .running ≡ true → allConform view rules m fs ≡ true
       → runBytes view rules m fs ≡ framesBytes (view .bytes touched) fs

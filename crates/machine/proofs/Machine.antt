@@ -16,7 +16,8 @@ use Rattle.states.specs.Table.{out, hovering}
 use Rattle.machine.specs.Table.{Table, contacts, stateAt, withContact, origin, resting, active, one, countActive}
 use Rattle.machine.specs.Rules.{View, Rules}
 use Rattle.machine.specs.Conforms.{tableAfter, conforms}
-use Rattle.machine.specs.Machine.{Machine, storedBytes, cancelFlags, cancelBytes, cancelsFrom, cancels, opening, Verdict, injected, ignored, cancelled, verdict, stepMachine, stepBytes, Counts, countOf, plus, none, runMachine, runBytes, runCounts, dismissTable, dismissBytes}
+use Rattle.machine.specs.Held.{nobody, activeIds, heldAfter, opening}
+use Rattle.machine.specs.Machine.{Machine, storedBytes, cancelFlags, cancelBytes, cancelsFrom, cancels, Verdict, injected, ignored, cancelled, verdict, stepMachine, stepBytes, Counts, countOf, plus, none, runMachine, runBytes, runCounts, dismissTable, dismissBytes}
 use Rattle.machine.proofs.Table.{count-step, count-all}
 
 -- ---- counts
@@ -50,12 +51,14 @@ module _ {C : Type 0} (view : View C) where
 
   module _ (rules : Rules C) (m : Machine) where
     -- "Any other frame is ignored."
-    pub verdict-other : (cs : List C) → m .running ≡ false → opening view cs ≡ false → verdict view rules m cs ≡ ignored
+    pub verdict-other : (cs : List C) → m .running ≡ false → opening view (m .held) cs ≡ false → verdict view rules m cs ≡ ignored
     unfolding verdict
-    verdict-other cs h o = ap (λ b. cond (cond b true (opening view cs)) (cond (conforms view rules (m .table) cs) injected cancelled) ignored) h ∙ rw o
+    verdict-other cs h o =
+        ap (λ b. cond (cond b true (opening view (m .held) cs)) (cond (conforms view rules (m .table) cs) injected cancelled) ignored) h ∙ rw o
 
     module _ (f : Frame C) where
-      pub injected-machine : verdict view rules m (f .contacts) ≡ injected → stepMachine view rules m f ≡ record { table = tableAfter view (rules .next) (m .table) (f .contacts); running = true }
+      pub injected-machine : verdict view rules m (f .contacts) ≡ injected
+          → stepMachine view rules m f ≡ record { table = tableAfter view (rules .next) (m .table) (f .contacts); running = true; held = cond (m .running) (m .held) nobody }
       unfolding stepMachine
       injected-machine h = rw h
 
@@ -63,7 +66,8 @@ module _ {C : Type 0} (view : View C) where
       unfolding stepBytes
       injected-bytes h = rw h
 
-      pub ignored-machine : verdict view rules m (f .contacts) ≡ ignored → stepMachine view rules m f ≡ m
+      pub ignored-machine : verdict view rules m (f .contacts) ≡ ignored
+          → stepMachine view rules m f ≡ record { table = m .table; running = m .running; held = heldAfter view (m .held) (f .contacts) }
       unfolding stepMachine
       ignored-machine h = rw h
 
@@ -71,7 +75,8 @@ module _ {C : Type 0} (view : View C) where
       unfolding stepBytes
       ignored-bytes h = rw h
 
-      pub cancelled-machine : verdict view rules m (f .contacts) ≡ cancelled → stepMachine view rules m f ≡ record { table = resting; running = false }
+      pub cancelled-machine : verdict view rules m (f .contacts) ≡ cancelled
+          → stepMachine view rules m f ≡ record { table = resting; running = false; held = heldAfter view (activeIds (m .table)) (f .contacts) }
       unfolding stepMachine
       cancelled-machine h = rw h
 

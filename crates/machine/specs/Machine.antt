@@ -1,4 +1,4 @@
--- Document 01, "Contact states": what becomes of a frame, and of the frames of a message, one after the other.
+-- Document 01, "Contact states", with document 02's #106: what becomes of a frame, and of the frames of a message, one after the other.
 use Prim.Native.Nat.{ℕ, zero, suc, _+_}
 use mathlib.Core.Bool.{Bool, true, false, cond}
 use mathlib.Core.List.{List, [], _∷_, _++_}
@@ -8,12 +8,29 @@ use Rattle.house.specs.Layout.{touched, cancelled as cancelKind, dismissed as d
 use Rattle.framing.specs.Frame.{Frame, frameBytes}
 use Rattle.machine.specs.Table.{Table, contacts, stateAt, placeAt, withContact, origin, resting, active}
 use Rattle.machine.specs.Rules.{View, Rules}
-use Rattle.machine.specs.Conforms.{every, tableAfter, conforms}
+use Rattle.machine.specs.Conforms.{tableAfter, conforms}
+use Rattle.machine.specs.Held.{nobody, activeIds, heldWithout, heldAfter, opening}
 
--- the contacts and the mode: running, or ignoring
+-- the contacts, the mode (running, or ignoring) and the set of ids that is kept while ignoring
 pub record Machine : Type 0 where
   pub table : Table
   pub running : Bool
+  pub held : List ℕ
+
+-- what it keeps for each contact, beside the mode
+pub record Arrays : Type 0 where
+  pub table : Table
+  pub held : List ℕ
+
+abbrev pub arraysIn : Machine → Arrays
+arraysIn m = record { table = m .table; held = m .held }
+
+abbrev pub inMode : Bool → Arrays → Machine
+inMode running a = record { table = a .table; running = running; held = a .held }
+
+-- "Outside ignoring the set is empty."
+abbrev pub runningWith : Table → Machine
+runningWith t = record { table = t; running = true; held = nobody }
 
 pub data Verdict : Type 0 where
   injected : Verdict
@@ -44,6 +61,10 @@ cancelFlags s = cond (eqb s engaged) 0x24 0x22
 unfoldable pub dismissTable : Table → ℕ → Table
 dismissTable t id = cond (eqb (stateAt t id) hovering) (withContact t id out origin) t
 
+-- .. and its id leaves the set
+abbrev pub dismissArrays : Arrays → ℕ → Arrays
+dismissArrays a id = record { table = dismissTable (a .table) id; held = heldWithout (a .held) id }
+
 module _ {C : Type 0} (view : View C) where
   -- ---- records that no message carries: "Kinds 2 and 3 carry the stored position and no optional field."
 
@@ -66,24 +87,23 @@ module _ {C : Type 0} (view : View C) where
 
   -- ---- a frame
 
-  -- "a frame is opening if it has at least one contact and each has 0x19"
-  abbrev pub isDown : C → Bool
-  isDown c = eqb (view .flags c) 0x19
-
-  unfoldable pub opening : List C → Bool
-  opening [] = false
-  opening (c ∷ cs) = every isDown (c ∷ cs)
-
   -- "Ignoring: .. An opening frame is judged as if running .. Any other frame is ignored and writes nothing."
-  unfoldable pub verdict : Rules C → Machine → List C → Verdict
-  verdict rules m cs =
-      cond (cond (m .running) true (opening cs)) (cond (conforms view rules (m .table) cs) injected cancelled) ignored
+  abbrev pub isJudged : Machine → List C → Bool
+  isJudged m cs = cond (m .running) true (opening view (m .held) cs)
 
-  -- "All go out of range; the mode becomes ignoring"; "if it conforms, the mode becomes running"
+  abbrev pub verdictBy : Bool → Rules C → Table → List C → Verdict
+  verdictBy judged rules t cs = cond judged (cond (conforms view rules t cs) injected cancelled) ignored
+
+  unfoldable pub verdict : Rules C → Machine → List C → Verdict
+  verdict rules m cs = verdictBy (isJudged m cs) rules (m .table) cs
+
+  -- "All go out of range; the mode becomes ignoring"; "if it conforms, the mode becomes running". The set "is emptied when a frame opens .. and built
+  -- again if it is cancelled": of "those active at the cancel, the offending frame's, and those of each frame ignored since".
   abbrev pub machineAfter : Verdict → (ℕ → ℕ → ℕ) → Machine → List C → Machine
-  machineAfter injected next m cs = record { table = tableAfter view next (m .table) cs; running = true }
-  machineAfter ignored next m cs = m
-  machineAfter cancelled next m cs = record { table = resting; running = false }
+  machineAfter injected next m cs =
+      record { table = tableAfter view next (m .table) cs; running = true; held = cond (m .running) (m .held) nobody }
+  machineAfter ignored next m cs = record { table = m .table; running = m .running; held = heldAfter view (m .held) cs }
+  machineAfter cancelled next m cs = record { table = resting; running = false; held = heldAfter view (activeIds (m .table)) cs }
 
   abbrev pub bytesFor : Verdict → Machine → Frame C → List ℕ
   bytesFor injected m f = frameBytes (view .bytes touched) f

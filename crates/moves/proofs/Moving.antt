@@ -37,54 +37,58 @@ never e a l h = absurd (let z : _≡_ {A = ℕ} 0 1 = cc in omega arith)
 same : {A : Type 0} (a b : A) (l m : List ℕ) → got a l ≡ got b m → a ≡ b
 same a b l m h = cc
 
-module _ (format : Format Contact) where
+module _ {A : Type 0} (step : A → Contact → A) (format : Format Contact) where
   -- ---- one turn of a loop over the contacts
 
-  module _ (t : Table) where
-    pub read-end : (k : ℕ) (l : List ℕ) → k ≤ 0 → afterRead format k t l ≡ t
+  module _ (a : A) where
+    pub read-end : (k : ℕ) (l : List ℕ) → k ≤ 0 → afterRead step format k a l ≡ a
     unfolding afterRead
     read-end zero l h = refl
     read-end (suc k) l h = absurd (omega arith)
 
-    pub read-bad : (k : ℕ) (l : List ℕ) (e : ℕ) → 0 < k → format .read l ≡ bad e → afterRead format k t l ≡ t
+    pub read-bad : (k : ℕ) (l : List ℕ) (e : ℕ) → 0 < k → format .read l ≡ bad e → afterRead step format k a l ≡ a
     unfolding afterRead
     read-bad zero l e h w = absurd (omega arith)
     read-bad (suc k) l e h w = rw w
 
-  -- a contact stored, and the others still to be read
-  pub read-on : (t u : Table) (k at end : ℕ) (s : List ℕ) (c : Contact) → 0 < k → Stepped format s at c end → Moves c t u
-      → afterRead format (k - 1) u (drop end s) ≡ afterRead format k t (drop at s)
+  -- a contact's step, and the others still to be read
+  pub read-on : (a b : A) (k at end : ℕ) (s : List ℕ) (c : Contact) → 0 < k → Stepped format s at c end → b ≡ step a c
+      → afterRead step format (k - 1) b (drop end s) ≡ afterRead step format k a (drop at s)
   unfolding afterRead
-  read-on t u zero at end s c h w m = absurd (omega arith)
-  read-on t u (suc k) at end s c h w m = rw (w .reads, sub-one, m)
+  read-on a b zero at end s c h w m = absurd (omega arith)
+  read-on a b (suc k) at end s c h w m = rw (w .reads, sub-one, m)
 
-  -- ---- contacts that can all be read: what is left is what the frame leaves
+  -- ---- contacts that can all be read: what is left is what the list of them leaves, by a function that takes them one by one
 
-  abbrev Leads : ℕ → Type 0
-  Leads n = (t : Table) (l : List ℕ) (cs : List Contact) (rest : List ℕ) → contactsBy format n l ≡ got cs rest → afterRead format n t l ≡ tableAfter touchView next t cs
+  module _ (after : A → List Contact → A) (none : (a : A) → after a [] ≡ a) (some : (a : A) (c : Contact) (cs : List Contact) → after a (c ∷ cs) ≡ after (step a c) cs) where
+    abbrev Leads : ℕ → Type 0
+    Leads n = (a : A) (l : List ℕ) (cs : List Contact) (rest : List ℕ) → contactsBy format n l ≡ got cs rest → afterRead step format n a l ≡ after a cs
 
-  one-more : (n : ℕ) → Leads n → Leads (suc n)
-  unfolding afterRead tableAfter readSeries
-  one-more n leads t l cs rest e = first (format .read l) e
-    where
-      others : (c : Contact) (m : List ℕ) (y : Got (List Contact)) → contactsBy format n m ≡ y → andThen y (λ ds v. got (c ∷ ds) v) ≡ got cs rest
-          → afterRead format n (moved touchView next t c) m ≡ tableAfter touchView next t cs
-      others c m (got ds v) q h = leads (moved touchView next t c) m ds v q ∙ ap (tableAfter touchView next t) (same (c ∷ ds) cs v rest h)
-      others c m (bad x) q h = never x cs rest h
+    one-more : (n : ℕ) → Leads n → Leads (suc n)
+    unfolding afterRead readSeries
+    one-more n leads a l cs rest e = first (format .read l) e
+      where
+        others : (c : Contact) (m : List ℕ) (y : Got (List Contact)) → contactsBy format n m ≡ y → andThen y (λ ds v. got (c ∷ ds) v) ≡ got cs rest
+            → afterRead step format n (step a c) m ≡ after a cs
+        others c m (got ds v) q h = leads (step a c) m ds v q ∙ (sym (some a c ds) ∙ ap (after a) (same (c ∷ ds) cs v rest h))
+        others c m (bad x) q h = never x cs rest h
 
-      first : (x : Got Contact) → andThen x (λ c m. andThen (contactsBy format n m) (λ ds v. got (c ∷ ds) v)) ≡ got cs rest
-          → onRead t (λ c m. afterRead format n (moved touchView next t c) m) x ≡ tableAfter touchView next t cs
-      first (got c m) h = others c m (contactsBy format n m) refl h
-      first (bad x) h = never x cs rest h
+        first : (x : Got Contact) → andThen x (λ c m. andThen (contactsBy format n m) (λ ds v. got (c ∷ ds) v)) ≡ got cs rest
+            → onRead a (λ c m. afterRead step format n (step a c) m) x ≡ after a cs
+        first (got c m) h = others c m (contactsBy format n m) refl h
+        first (bad x) h = never x cs rest h
 
-  read-all : (n : ℕ) → Leads n
-  unfolding afterRead tableAfter readSeries
-  read-all zero t l cs rest e = ap (tableAfter touchView next t) (same [] cs l rest e)
-  read-all (suc n) t l cs rest e = one-more n (read-all n) t l cs rest e
+    pub read-all : (n : ℕ) → Leads n
+    unfolding afterRead readSeries
+    read-all zero a l cs rest e = sym (none a) ∙ ap (after a) (same [] cs l rest e)
+    read-all (suc n) a l cs rest e = one-more n (read-all n) a l cs rest e
 
+module _ (format : Format Contact) where
   pub applies-after : (n : ℕ) (l : List ℕ) (end : ℕ) (t u : Table) (cs : List Contact) (rest : List ℕ) → Applies format n l end t u → contactsBy format n l ≡ got cs rest
       → u ≡ tableAfter touchView next t cs
-  applies-after n l end t u cs rest h e = h .table ∙ read-all n t l cs rest e
+  unfolding tableAfter
+  applies-after n l end t u cs rest h e =
+      h .table ∙ read-all (moved touchView next) format (tableAfter touchView next) (λ a. refl) (λ a c ds. refl) n t l cs rest e
 
   -- ---- where they end
 

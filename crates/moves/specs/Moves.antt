@@ -21,10 +21,12 @@ abbrev pub onRead : {A B : Type 0} → B → (A → List ℕ → B) → Got A �
 onRead z f (got a t) = f a t
 onRead z f (bad e) = z
 
--- what n contacts at the front of a list of bytes leave, one after the other; those before the first that cannot be read, where one cannot
-unfoldable pub afterRead : Format Contact → ℕ → Table → List ℕ → Table
-afterRead format zero t l = t
-afterRead format (suc n) t l = onRead t (λ c rest. afterRead format n (moved touchView next t c) rest) (format .read l)
+-- what n contacts at the front of a list of bytes leave of a, one after the other by a step; those before the first that cannot be read, where one
+-- cannot
+module _ {A : Type 0} (step : A → Contact → A) (format : Format Contact) where
+  unfoldable pub afterRead : ℕ → A → List ℕ → A
+  afterRead zero a l = a
+  afterRead (suc n) a l = onRead a (λ c rest. afterRead n (step a c) rest) (format .read l)
 
 -- one contact stored
 abbrev pub Moves : Contact → Table → Table → Type 0
@@ -41,7 +43,7 @@ pub record Ends (format : Format Contact) (n : ℕ) (l : List ℕ) (end : ℕ) :
 
 -- the n contacts at the front of l stored
 pub record Applies (format : Format Contact) (n : ℕ) (l : List ℕ) (end : ℕ) (before after : Table) : Type 0 where
-  pub table : after ≡ afterRead format n before l
+  pub table : after ≡ afterRead (moved touchView next) format n before l
   pub passed : Ends format n l end
 
 -- a dismissal that finds too little room leaves the table as it was

@@ -8,7 +8,7 @@ use lib.ListN.{length}
 use Rattle.paper.specs.Refusals.{noRoom}
 use Rattle.slices.specs.Writing.{laid, given, left}
 use Rattle.formats.specs.Format.{Got, got, bad}
-use Rattle.machine.specs.Table.{Table}
+use Rattle.machine.specs.Machine.{Arrays}
 use Rattle.receiver.specs.declared.Receiver.{Receiver}
 use Rattle.receiver.specs.declared.Received.{Received}
 use Rattle.receiver.specs.declared.Turn.{Turn}
@@ -47,5 +47,5 @@ pub gives-same : (r : Receiver) (x y : Got Effect) (before : List ℕ) (q : Rece
 gives-same r x y before q after e g = rw e g
 
 -- an answer of the parts is an answer of the receiver that they are
-pub turned-same : (n m : Turn) (t : Table) → n ≡ m → turned n t ≡ turned m t
+pub turned-same : (n m : Turn) (t : Arrays) → n ≡ m → turned n t ≡ turned m t
 turned-same n m t e = ap (λ (x : Turn). turned x t) e

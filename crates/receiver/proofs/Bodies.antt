@@ -30,9 +30,9 @@ use Rattle.machine.specs.Machine.{dismissBytes}
 use Rattle.moves.specs.Moves.{dismissedIn, Dismisses}
 use Rattle.receiver.specs.declared.Receiver.{Receiver}
 use Rattle.receiver.specs.declared.Received.{Received}
-use Rattle.receiver.specs.Receive.{takes, withTable, machineOf, settled, dismissedBy, effect, refusal}
+use Rattle.receiver.specs.Receive.{takes, ofParts, marksOf, machineOf, settled, dismissedBy, effect, refusal}
 use Rattle.channel.specs.Marks.{off}
-use Rattle.receiver.specs.Events.{Gives, readyEffect, touchEffect, dismissEffect}
+use Rattle.receiver.specs.Events.{heldBy, Gives, readyEffect, touchEffect, dismissEffect}
 use Rattle.receiver.proofs.Answering.{gives-refused, gives-none, gives-done}
 use Rattle.contacts.specs.Touch.{touchView}
 
@@ -102,11 +102,11 @@ module _ (r : Receiver) (b : List ℕ) (x : ReadDismiss) (g : dismissGot x ≡ w
       let w : whole byte trailing b ≡ bad n = sym g ∙ ap dismissGot e in
       gives-refused r before q (dismissEffect r b) n (rw w) a
 
-  pub dismiss-taken : (k : ℕ) (v : Written) (u : Table) (after : List ℕ) → x ≡ id.Id k → Dismisses k v before after (machineOf r .table) u
-      → q ≡ record { receiver = withTable r u; answer = record { refusal = v .refusal; injected = 0; ignored = 0; cancelled = 0; time = record { 0 = 0 }; records = v .bytes / recordBytes } }
+  pub dismiss-taken : (k : ℕ) (v : Written) (u : Table) (held : List ℕ) (after : List ℕ) → x ≡ id.Id k → Dismisses k v before after (machineOf r .table) u → held ≡ heldBy (v .refusal) (r .held) k
+      → q ≡ record { receiver = ofParts (marksOf r) (record { table = u; held = held }); answer = record { refusal = v .refusal; injected = 0; ignored = 0; cancelled = 0; time = record { 0 = 0 }; records = v .bytes / recordBytes } }
       → Gives r (dismissEffect r b) before q after
   unfolding dismissedIn
-  dismiss-taken k v u after e m a = go (leb (length s) (length before)) refl
+  dismiss-taken k v u held after e m f a = go (leb (length s) (length before)) refl
     where
       s : List ℕ
       s = dismissBytes touchView (machineOf r .table) k
@@ -120,10 +120,10 @@ module _ (r : Receiver) (b : List ℕ) (x : ReadDismiss) (g : dismissGot x ≡ w
           let z = given-room s (length before) room in
           let an = rw z at (m .writes .answer) in
           let ou = rw z at (m .writes .output) in
-          gives-done r before q (dismissEffect r b) (dismissedBy r k) [] (rw w) after room (rw (m .table, y, an) at a) ou
+          gives-done r before q (dismissEffect r b) (dismissedBy r k) [] (rw w) after room (rw (f, m .table, y, an) at a) ou
       go false y =
           let room = leb-false (length s) (length before) y in
           let z = given-none s (length before) room in
           let an = rw z at (m .writes .answer) in
           let ou = rw z at (m .writes .output) in
-          rw ou (gives-none r before q (dismissEffect r b) (dismissedBy r k) [] (rw w) room (rw (m .table, y, an) at a))
+          rw ou (gives-none r before q (dismissEffect r b) (dismissedBy r k) [] (rw w) room (rw (f, m .table, y, an) at a))

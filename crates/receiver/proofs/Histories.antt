@@ -16,21 +16,24 @@ use Rattle.house.specs.declared.Contact.{Contact}
 use Rattle.framing.specs.Frame.{Frame}
 use Rattle.machine.specs.Rules.{Rules}
 use Rattle.machine.specs.Table.{contacts, stateAt, placeAt, origin, countActive, resting}
+use Rattle.machine.specs.Held.{isHeld, nobody, activeIds, heldAfter}
 use Rattle.machine.specs.Machine.{Machine, cancelled, verdict, cancels, stepMachine, runMachine, runBytes}
 use Rattle.machine.proofs.Table.{Whole, resting-state}
 use Rattle.machine.proofs.Machine.{cancelled-machine}
-use Rattle.stream.specs.Stream.{Stream, opens, unopened, NoneActive}
+use Rattle.stream.specs.Stream.{Stream, unopened, NoneActive}
 use Rattle.stream.specs.Stream as stream
+use Rattle.stream.specs.Set.{InSet, log}
 use Rattle.stream.specs.Path.{at}
 use Rattle.stream.proofs.Steadiness.{none-active-rests}
 use Rattle.stream.proofs.Quiet.{quiet-bytes, quiet-machine}
 use Rattle.stream.proofs.Demand.{a-silent-stream-writes-nothing-until-an-opening-frame, a-silent-stream-passes-over-frames-that-do-not-open}
 use Rattle.stream.proofs.Demand as demand
+use Rattle.stream.proofs.Set as set
 use Rattle.receiver.specs.Receive.{machineOf, fresh, effect, draftOf, Receives}
 use Rattle.channel.specs.Marks.{off}
 use Rattle.receiver.specs.declared.Receiver.{Receiver}
 use Rattle.receiver.specs.declared.Answer.{Answer}
-use Rattle.receiver.specs.History.{Sent, OfBytes, messagesOf, next, answerTo, wrote, after, written, Roomy, tableOf, touchIn, framesTaken, Unopened, rested, machineAt, bytesAt, messageOf, Cut, AsRested, CancelledAfter, Silent, recordsIn, path, touchProfile, streamOf}
+use Rattle.receiver.specs.History.{Sent, OfBytes, messagesOf, next, answerTo, wrote, after, written, Roomy, tableOf, touchIn, framesTaken, opensAfter, UnopenedAfter, Unopened, rested, machineAt, bytesAt, messageOf, Cut, AsRested, CancelledAfter, Silent, SilentAs, recordsIn, path, touchProfile, streamOf}
 use Rattle.receiver.proofs.Lawful.{touch-law}
 use Rattle.receiver.proofs.Streaming.{givenBy, givens, given-frames, stream-next, stream-wrote, stream-after, stream-written, givens-unopened}
 use Rattle.receiver.proofs.Invariants.{fresh-kept, history-kept, givens-proper, answer-counts}
@@ -84,9 +87,33 @@ counts-add-up-to-frame-count = answer-counts
 pub at-most-maxTouchContacts-active : (h : List Sent) → OfBytes h → countActive (after fresh h .states) ≤ after fresh h .settings .most
 at-most-maxTouchContacts-active h b = history-kept h b .stream .few
 
+-- "Outside ignoring the set is empty."
+pub running-means-an-empty-set : (h : List Sent) → OfBytes h → off (after fresh h .ignoring) ≡ true → after fresh h .held ≡ nobody
+running-means-an-empty-set h b = history-kept h b .stream .empty
+
+-- The set has a mark for each of the 256 ids.
+pub every-id-has-a-mark : (h : List Sent) → OfBytes h → length (after fresh h .held) ≡ contacts
+every-id-has-a-mark h b = history-kept h b .stream .marks
+
+-- what a fresh receiver starts from
 fresh-table : tableOf fresh ≡ resting
 unfolding fresh
 fresh-table = refl
+
+fresh-held : fresh .held ≡ nobody
+unfolding fresh
+fresh-held = refl
+
+-- ---- "WHILE IGNORING, KEEP A SET OF IDS: THOSE ACTIVE AT THE CANCEL, THE OFFENDING FRAME'S, AND THOSE OF EACH FRAME IGNORED SINCE"
+
+-- An id is in the set that the receiver has after a history if and only if it joined by what happened in that history and has not left since.
+pub the-set-is-the-sentence : (id : ℕ) → id < contacts → (h : List Sent) → OfBytes h
+    → (isHeld (after fresh h .held) id ≡ true → InSet touchView id (log touchProfile (streamOf fresh) (givens fresh h)))
+    × (InSet touchView id (log touchProfile (streamOf fresh) (givens fresh h)) → isHeld (after fresh h .held) id ≡ true)
+the-set-is-the-sentence id l h b =
+    let a = set.the-set-is-the-sentence touch-law id l (streamOf fresh) (givens fresh h) fresh-held (givens-proper fresh h b fresh-kept) (fresh-kept .stream) in
+    let e = ap (λ (s : Stream Ready). isHeld (s .machine .held) id) (stream-after fresh h) in
+    (λ k. a .0 (sym e ∙ k), λ i. e ∙ a .1 i)
 
 -- ---- "EACH CONTACT'S RECORDS ARE A LEGAL PATH THROUGH THE THREE STATES FROM OUT OF RANGE"
 
@@ -96,27 +123,29 @@ pub each-contact's-records-are-a-legal-path : (id : ℕ) → id < contacts → (
     → path id (recordsIn (written fresh h)) out origin ≡ at (stateAt (tableOf (after fresh h)) id) (placeAt (tableOf (after fresh h)) id)
 each-contact's-records-are-a-legal-path id l h b =
     ap (λ (s : List ℕ). path id (recordsIn s) out origin) (stream-written fresh h)
-    ∙ (demand.each-contact's-records-are-a-legal-path touch-law id l (streamOf fresh) (givens fresh h) fresh-table (givens-proper fresh h b fresh-kept)
+    ∙ (demand.each-contact's-records-are-a-legal-path touch-law id l (streamOf fresh) (givens fresh h) fresh-table (fresh-kept .stream) (givens-proper fresh h b fresh-kept)
     ∙ ap (λ (s : Stream Ready). at (stateAt (s .machine .table) id) (placeAt (s .machine .table) id)) (sym (stream-after fresh h)))
 
 -- ---- "AFTER A CANCEL'S OWN RECORDS NOTHING IS WRITTEN UNTIL AN OPENING FRAME"
 
--- Every cancelled frame leaves all contacts out of range, and the mode ignoring.
-pub a-cancelled-frame-leaves-rest-and-ignoring : (rules : Rules Contact) (m : Machine) (f : Frame Contact) → verdict touchView rules m (f .contacts) ≡ cancelled → stepMachine touchView rules m f ≡ record { table = resting; running = false }
+-- Every cancelled frame leaves all contacts out of range, the mode ignoring, and a set of those that were active and of its own.
+pub a-cancelled-frame-leaves-rest-and-ignoring : (rules : Rules Contact) (m : Machine) (f : Frame Contact) → verdict touchView rules m (f .contacts) ≡ cancelled
+    → stepMachine touchView rules m f ≡ record { table = resting; running = false; held = heldAfter touchView (activeIds (m .table)) (f .contacts) }
 a-cancelled-frame-leaves-rest-and-ignoring = cancelled-machine touchView
 
--- Frames none of which opens leave a machine that ignores as it is, and write nothing.
-pub frames-that-do-not-open-are-ignored : (rules : Rules Contact) (m : Machine) (fs : List (Frame Contact)) → m .running ≡ false → unopened touchView fs ≡ true → (runBytes touchView rules m fs ≡ []) × (runMachine touchView rules m fs ≡ m)
+-- Frames none of which opens leave a machine that ignores as it is, but for its set, and write nothing.
+pub frames-that-do-not-open-are-ignored : (rules : Rules Contact) (m : Machine) (fs : List (Frame Contact)) → m .running ≡ false → unopened touchView rules m fs ≡ true
+    → (runBytes touchView rules m fs ≡ []) × (runMachine touchView rules m fs ≡ record { table = m .table; running = m .running; held = runMachine touchView rules m fs .held })
 frames-that-do-not-open-are-ignored rules m fs h u = (quiet-bytes touchView rules m fs h u, quiet-machine touchView rules m fs h u)
 
 -- Within a message: after the frames fs, the cancelled frame f writes its records; the frames gs, none of which opens, write nothing; and the
--- frames hs after them write and leave what they do to any silent receiver with the same settings.
+-- frames hs after them write and leave what they do to any silent receiver with the same settings and the set that those before them leave.
 pub after-a-cancelled-frame-nothing-until-an-opening-one : (r : Receiver) (x : Sent) (fs : List (Frame Contact)) (f : Frame Contact) (gs hs : List (Frame Contact))
-    → framesTaken r x ≡ fs ++ (f ∷ (gs ++ hs)) → CancelledAfter r fs f → unopened touchView gs ≡ true
-    → (q : Receiver) → Silent q → q .settings ≡ r .settings
+    → framesTaken r x ≡ fs ++ (f ∷ (gs ++ hs)) → CancelledAfter r fs f → UnopenedAfter r (fs ++ (f ∷ [])) gs
+    → (q : Receiver) → SilentAs r (fs ++ (f ∷ gs)) q
     → (wrote r x ≡ (bytesAt r fs ++ cancels touchView (machineAt r fs .table)) ++ bytesAt q hs) × (machineOf (next r x) ≡ machineAt q hs)
-after-a-cancelled-frame-nothing-until-an-opening-one r x fs f gs hs e v u q k z =
-    let a = demand.after-a-cancelled-frame-nothing-until-an-opening-one touchProfile (streamOf r) (givenBy r x) fs f gs hs (given-frames r x ∙ e) v u (streamOf q) k z in
+after-a-cancelled-frame-nothing-until-an-opening-one r x fs f gs hs e v u q k =
+    let a = demand.after-a-cancelled-frame-nothing-until-an-opening-one touchProfile (streamOf r) (givenBy r x) fs f gs hs (given-frames r x ∙ e) v u (streamOf q) k in
     (stream-wrote r x ∙ a .0, ap (λ (s : Stream Ready). s .machine) (stream-next r x) ∙ a .1)
 
 -- Over messages: a receiver that ignores and has no active contact writes nothing, dismissals included, and stays so, as long as no opening
@@ -126,21 +155,23 @@ a-silent-receiver-writes-nothing-until-an-opening-frame r h k u =
     let q = a-silent-stream-writes-nothing-until-an-opening-frame touchProfile (streamOf r) (givens r h) k (givens-unopened r h u) in
     (stream-written r h ∙ q .0, subst stream.Silent (sym (stream-after r h)) (q .1))
 
--- Also where that frame stands inside a message: of the frames gs and hs, none of gs opening, it writes what it does of hs alone.
-pub a-silent-receiver-passes-over-frames-that-do-not-open : (r : Receiver) (x : Sent) (gs hs : List (Frame Contact)) → Silent r → framesTaken r x ≡ gs ++ hs → unopened touchView gs ≡ true
-    → wrote r x ≡ bytesAt r hs
-a-silent-receiver-passes-over-frames-that-do-not-open r x gs hs k e u =
-    stream-wrote r x ∙ a-silent-stream-passes-over-frames-that-do-not-open touchProfile (streamOf r) (givenBy r x) gs hs k (given-frames r x ∙ e) u
+-- Also where that frame stands inside a message: of the frames gs and hs, none of gs opening, it writes what hs write to any silent receiver
+-- with the same settings and the set that gs leave.
+pub a-silent-receiver-passes-over-frames-that-do-not-open : (r : Receiver) (x : Sent) (gs hs : List (Frame Contact)) → Silent r → framesTaken r x ≡ gs ++ hs → UnopenedAfter r [] gs
+    → (q : Receiver) → SilentAs r gs q → wrote r x ≡ bytesAt q hs
+a-silent-receiver-passes-over-frames-that-do-not-open r x gs hs k e u q a =
+    stream-wrote r x ∙ a-silent-stream-passes-over-frames-that-do-not-open touchProfile (streamOf r) (givenBy r x) gs hs k (given-frames r x ∙ e) u (streamOf q) a
 
 -- Both: of an accepted message x with the frames fs, f, gs, where f is cancelled and none of gs opens, and of all messages after it, as long as
 -- no opening frame is accepted, nothing is written but the records of fs and the cancel's own.
 pub after-a-cancel-nothing-until-an-opening-frame : (r : Receiver) (x : Sent) (h : List Sent) (fs : List (Frame Contact)) (f : Frame Contact) (gs : List (Frame Contact))
-    → framesTaken r x ≡ fs ++ (f ∷ gs) → CancelledAfter r fs f → unopened touchView gs ≡ true → Unopened (next r x) h
+    → framesTaken r x ≡ fs ++ (f ∷ gs) → CancelledAfter r fs f → UnopenedAfter r (fs ++ (f ∷ [])) gs → Unopened (next r x) h
     → (written r (x ∷ h) ≡ bytesAt r fs ++ cancels touchView (machineAt r fs .table)) × Silent (after r (x ∷ h))
 unfolding givens
 after-a-cancel-nothing-until-an-opening-frame r x h fs f gs e v u k =
+    let o = subst (λ (s : Stream Ready). stream.Unopened touchProfile s (givens (next r x) h)) (stream-next r x) (givens-unopened (next r x) h k) in
     let q =
-    demand.after-a-cancel-nothing-until-an-opening-frame touchProfile (streamOf r) (givenBy r x) (givens (next r x) h) fs f gs (given-frames r x ∙ e) v u (givens-unopened (next r x) h k) in
+    demand.after-a-cancel-nothing-until-an-opening-frame touchProfile (streamOf r) (givenBy r x) (givens (next r x) h) fs f gs (given-frames r x ∙ e) v u o in
     (stream-written r (x ∷ h) ∙ q .0, subst stream.Silent (sym (stream-after r (x ∷ h))) (q .1))
 
 -- ---- "FROM ANY OPENING FRAME ACCEPTED WHILE NO CONTACT IS ACTIVE, THE RECORDS AND THE CONTACT TABLE ARE THOSE OF A RESTED RECEIVER WITH THE
@@ -155,7 +186,7 @@ a-receiver-at-rest-is-the-rested-one h b = at-rest (after fresh h) (history-kept
 -- r is the receiver after any history. Its next message x has the opening frame f, before which no contact is active, in either mode; the
 -- rested receiver gets y instead, which begins with f; then both get the same messages, each lent whatever room.
 pub from-an-opening-frame-as-if-rested : (h : List Sent) → OfBytes h → let r : Receiver = after fresh h in
-    (x y : Sent) → Bytes (x .message) → (fs : List (Frame Contact)) (f : Frame Contact) (gs : List (Frame Contact)) → Cut r (x .message) (y .message) fs f gs → opens touchView f ≡ true → NoneActive (machineAt r fs .table)
+    (x y : Sent) → Bytes (x .message) → (fs : List (Frame Contact)) (f : Frame Contact) (gs : List (Frame Contact)) → Cut r (x .message) (y .message) fs f gs → opensAfter r fs f ≡ true → NoneActive (machineAt r fs .table)
     → (more others : List Sent) → messagesOf more ≡ messagesOf others → Roomy r (x ∷ more) → Roomy (rested (r .settings)) (y ∷ others)
     → AsRested r x y fs more others
 from-an-opening-frame-as-if-rested h b = as-rested (after fresh h) (history-kept h b)

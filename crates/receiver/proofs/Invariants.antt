@@ -20,7 +20,9 @@ use Rattle.framing.specs.Frame.{Frame, begunBy}
 use Rattle.touch.specs.Touch.{Touch, body}
 use Rattle.touch.proofs.Ranges.{ContactRead}
 use Rattle.machine.specs.Table.{resting}
+use Rattle.machine.proofs.Held.{nobody-length}
 use Rattle.stream.specs.Stream.{Stream, frames}
+use Rattle.stream.specs.Set.{Happening}
 use Rattle.stream.specs.Asked.{All, FrameFits, Proper, AllProper}
 use Rattle.stream.proofs.Steadiness.{resting-steady, dismiss-steady}
 use Rattle.stream.proofs.Kept.{next-kept as stream-kept}
@@ -57,7 +59,7 @@ pub fresh-kept : Kept fresh
 unfolding fresh
 fresh-kept =
     record {
-      stream = resting-steady touch-law 0 (machineOf fresh) refl;
+      stream = resting-steady touch-law 0 (machineOf fresh) refl (λ e. refl) nobody-length;
       marks = record { ready = omega arith; begun = omega arith; ignoring = omega arith };
       unready = λ e. refl;
     }
@@ -78,7 +80,7 @@ pub message-fits : (r : Receiver) (l : List ℕ) (m : Touch) (t : List ℕ) → 
 message-fits r l m t hl e = frames-fit (m .frames) (message-read r l m t hl e)
 
 -- a message asks of the stream nothing but what is proper
-became-proper : (r : Receiver) (l : List ℕ) {q : Receiver} {s : List ℕ} {a : Answer} {fs : List (Frame Contact)} → Bytes l → Kept r → (b : Became r l q s a fs) → Proper Fits (streamOf r) (fromBecame b)
+became-proper : (r : Receiver) (l : List ℕ) {q : Receiver} {s : List ℕ} {a : Answer} {fs : List (Frame Contact)} {ds : List (Happening Contact)} → Bytes l → Kept r → (b : Became r l q s a fs ds) → Proper Fits (streamOf r) (fromBecame b)
 became-proper r l hl k (refused n) = tt
 became-proper r l hl k (settles s o) = k .unready o
 became-proper r l hl k (touches m t o e) = message-fits r l m t hl e
@@ -99,7 +101,7 @@ begun-small begun n h = go (eqb n 0)
 pub settled-kept : (r : Receiver) (s : Ready) → off (r .ready) ≡ true → Kept r → Kept (settled r s .receiver)
 settled-kept r s o k =
     record {
-      stream = resting-steady touch-law (s .most) (machineOf r) (k .unready o);
+      stream = resting-steady touch-law (s .most) (machineOf r) (k .unready o) (k .stream .empty) (k .stream .marks);
       marks = record { ready = omega arith; begun = k .marks .begun; ignoring = k .marks .ignoring };
       unready = λ u. never u refl;
     }
@@ -125,7 +127,7 @@ dismissed-kept r id o k =
       unready = λ u. never u o;
     }
 
-became-kept : (r : Receiver) (l : List ℕ) {q : Receiver} {s : List ℕ} {a : Answer} {fs : List (Frame Contact)} → Bytes l → Kept r → Became r l q s a fs → Kept q
+became-kept : (r : Receiver) (l : List ℕ) {q : Receiver} {s : List ℕ} {a : Answer} {fs : List (Frame Contact)} {ds : List (Happening Contact)} → Bytes l → Kept r → Became r l q s a fs ds → Kept q
 became-kept r l hl k (refused n) = k
 became-kept r l hl k (settles s o) = settled-kept r s o k
 became-kept r l hl k (touches m t o e) = touched-kept r m o (message-fits r l m t hl e) k
@@ -155,7 +157,7 @@ givens-proper r (x ∷ h) b k =
 
 -- ---- the counts of a message
 
-became-counts : (r : Receiver) (l : List ℕ) {q : Receiver} {s : List ℕ} {a : Answer} {fs : List (Frame Contact)} → Became r l q s a fs → a .injected + a .ignored + a .cancelled ≡ length fs
+became-counts : (r : Receiver) (l : List ℕ) {q : Receiver} {s : List ℕ} {a : Answer} {fs : List (Frame Contact)} {ds : List (Happening Contact)} → Became r l q s a fs ds → a .injected + a .ignored + a .cancelled ≡ length fs
 unfolding touched
 became-counts r l (refused n) = refl
 became-counts r l (settles s o) = refl

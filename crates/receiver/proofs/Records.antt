@@ -23,6 +23,7 @@ use Rattle.machine.specs.Table.{Table, contacts, stateAt, origin, withContact}
 use Rattle.machine.specs.Machine.{Machine, Verdict, injected, ignored, cancelled, verdict, bytesFor, stepMachine, stepBytes, runMachine, runBytes, dismissTable, dismissBytes}
 use Rattle.machine.proofs.Machine.{cancels-from-length, keep-bytes}
 use Rattle.moves.proofs.Dismissal.{dismiss-length}
+use Rattle.stream.specs.Set.{Happening}
 use Rattle.receiver.specs.declared.Receiver.{Receiver}
 use Rattle.receiver.specs.declared.Answer.{Answer}
 use Rattle.receiver.specs.Limits.{mostOutput}
@@ -64,7 +65,7 @@ dismiss-records t id = go (eqb (stateAt t id) hovering) refl
     go true e = record { count = 1; is = dismiss-length t id (eqb-true (stateAt t id) hovering e) }
     go false e = record { count = 0; is = ap length (keep-bytes touchView t id (eqb-false (stateAt t id) hovering e)) }
 
-became-records : (r : Receiver) (l : List ℕ) {q : Receiver} {s : List ℕ} {a : Answer} {fs : List (Frame Contact)} → Became r l q s a fs → recordBytes * a .records ≡ length s
+became-records : (r : Receiver) (l : List ℕ) {q : Receiver} {s : List ℕ} {a : Answer} {fs : List (Frame Contact)} {ds : List (Happening Contact)} → Became r l q s a fs ds → recordBytes * a .records ≡ length s
 became-records r l (refused n) = refl
 became-records r l (settles s o) = refl
 became-records r l (touches m t o e) =
@@ -130,7 +131,7 @@ dismiss-long t id h = go (eqb (stateAt t id) hovering)
     go true = simp length-set h
     go false = h
 
-became-long : (r : Receiver) (l : List ℕ) {q : Receiver} {s : List ℕ} {a : Answer} {fs : List (Frame Contact)} → length (r .states) ≡ contacts → Became r l q s a fs → length (q .states) ≡ contacts
+became-long : (r : Receiver) (l : List ℕ) {q : Receiver} {s : List ℕ} {a : Answer} {fs : List (Frame Contact)} {ds : List (Happening Contact)} → length (r .states) ≡ contacts → Became r l q s a fs ds → length (q .states) ≡ contacts
 became-long r l h (refused n) = h
 became-long r l h (settles s o) = h
 became-long r l h (touches m t o e) =

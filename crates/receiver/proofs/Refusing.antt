@@ -24,6 +24,7 @@ use Rattle.touch.specs.Limits.{mostContacts, mostFrames}
 use Rattle.framing.specs.Format.{bodyFormat, bodyHeadFormat, frameFormat, frameHeadFormat, bodyHeadOf, countTo, offset}
 use Rattle.touch.specs.Touch.{optionalOf, present, point, flags, sides, orientation, pressure, optional, contact, frameHead, frame, touchHead, body}
 use Rattle.touch.specs.Touch as format
+use Rattle.stream.specs.Set.{Happening}
 use Rattle.receiver.specs.declared.Receiver.{Receiver}
 use Rattle.receiver.specs.declared.Answer.{Answer}
 use Rattle.receiver.specs.Receive.{judged, takes, bodyEffect, effect}
@@ -197,7 +198,7 @@ effect-tame r l = and-then (Listed false (judged r)) (headed (takes r) l) (bodyE
 
 -- ---- a refused message of a history
 
-became-none : (r : Receiver) (l : List ℕ) {q : Receiver} {s : List ℕ} {a : Answer} {fs : List (Frame Contact)} → Became r l q s a fs → (a .refusal ≡ none → ⊥) → (q ≡ r) × (s ≡ [])
+became-none : (r : Receiver) (l : List ℕ) {q : Receiver} {s : List ℕ} {a : Answer} {fs : List (Frame Contact)} {ds : List (Happening Contact)} → Became r l q s a fs ds → (a .refusal ≡ none → ⊥) → (q ≡ r) × (s ≡ [])
 became-none r l (Became.refused n) u = (refl, refl)
 became-none r l (settles s o) u = absurd (u refl)
 became-none r l (touches m t o e) u = absurd (u refl)

@@ -21,20 +21,20 @@ use Rattle.house.specs.declared.Contact.{Contact}
 use Rattle.framing.proofs.Begun.{begun-some}
 use Rattle.framing.specs.Frame.{Frame, begunBy}
 use Rattle.touch.specs.Touch.{Touch, body}
-use Rattle.stream.specs.Stream.{Stream, frames, opens, NoneActive}
+use Rattle.stream.specs.Stream.{Stream, frames, NoneActive}
 use Rattle.stream.specs.Stream as stream
+use Rattle.stream.specs.Set.{Happening}
 use Rattle.stream.proofs.Steadiness.{none-active-rests}
 use Rattle.stream.proofs.Demand.{from-an-opening-frame-as-if-rested}
 use Rattle.receiver.specs.declared.Receiver.{Receiver}
 use Rattle.receiver.specs.declared.Answer.{Answer}
 use Rattle.receiver.specs.Receive.{Effect, judged, touched, effect, refusal, answerOf, receiverAfter, answerAfter, untimed, timeBy}
 use Rattle.channel.specs.Marks.{off, mark}
-use Rattle.receiver.specs.History.{Sent, next, answerTo, wrote, after, written, outcomes, messagesOf, Roomy, tableOf, touchIn, rested, touchProfile, streamOf, machineAt, bytesAt, Cut, AsRested}
+use Rattle.receiver.specs.History.{Sent, next, answerTo, wrote, after, written, outcomes, messagesOf, Roomy, tableOf, touchIn, rested, touchProfile, streamOf, machineAt, bytesAt, opensAfter, Cut, AsRested}
 use Rattle.receiver.proofs.Became.{Does, does, fails, settles, touches, dismisses}
 use Rattle.receiver.proofs.Lawful.{touch-law}
 use Rattle.receiver.proofs.Streaming.{bytes-touched, stream-touched}
 use Rattle.receiver.proofs.Invariants.{Kept, message-fits, mark-one}
-use Rattle.contacts.specs.Touch.{touchView}
 
 -- ---- a receiver that frames leave is known from its stream
 
@@ -48,6 +48,7 @@ ofStream ready s =
       states = s .machine .table .states;
       xs = s .machine .table .xs;
       ys = s .machine .table .ys;
+      held = s .machine .held;
     }
 
 mark-off : (b : Bool) → mark (not b) ≡ mark (not (off (mark (not b))))
@@ -69,13 +70,15 @@ from-stream r time fs f gs =
       states = a .table .states;
       xs = a .table .xs;
       ys = a .table .ys;
+      held = a .held;
     }
 
 rested-stream : (x : Ready) → streamOf (rested x) ≡ stream.rested x
 unfolding rested stream.rested
 rested-stream x = refl
 
--- "A rested receiver has accepted event 2, is past its first frame, is running, and has no active contact.": there is one for settings
+-- "A rested receiver has accepted event 2, is past its first frame, is running, and has no active contact.": there is one for settings, as
+-- outside ignoring the set is empty
 pub at-rest : (r : Receiver) → Kept r → off (r .ready) ≡ false → off (r .begun) ≡ false → off (r .ignoring) ≡ true → NoneActive (tableOf r) → r ≡ rested (r .settings)
 unfolding rested
 at-rest r k ready begun running idle =
@@ -88,6 +91,7 @@ at-rest r k ready begun running idle =
       states = t i .states;
       xs = t i .xs;
       ys = t i .ys;
+      held = k .stream .empty running i;
     }
 
 -- ---- a message that is not refused for lack of room
@@ -112,7 +116,7 @@ takes-effect r x e t h = rw h (go (leb (length (e .bytes)) (x .room)) refl)
 pub touch-body : (r : Receiver) (l : List ℕ) (m : Touch) (t : List ℕ) → touchIn r l ≡ got m t → (off (r .ready) ≡ false) × (body taken (judged r) (drop headerBytes l) ≡ got m t)
 touch-body r l m t h = go (does r l) h
   where
-    go : {x : Got Effect} {g : Got Touch} → Does r l x g → g ≡ got m t → (off (r .ready) ≡ false) × (body taken (judged r) (drop headerBytes l) ≡ got m t)
+    go : {x : Got Effect} {g : Got Touch} {ds : List (Happening Contact)} → Does r l x g ds → g ≡ got m t → (off (r .ready) ≡ false) × (body taken (judged r) (drop headerBytes l) ≡ got m t)
     go (fails n k) e = never k m t e
     go (settles s u k o) e = never k m t e
     go (touches n u o b) e = (o, b ∙ e)
@@ -121,7 +125,7 @@ touch-body r l m t h = go (does r l) h
 pub touch-effect : (r : Receiver) (l : List ℕ) (m : Touch) (t : List ℕ) → touchIn r l ≡ got m t → effect r l ≡ got (touched r m) t
 touch-effect r l m t h = go (does r l) h
   where
-    go : {x : Got Effect} {g : Got Touch} → Does r l x g → g ≡ got m t → x ≡ got (touched r m) t
+    go : {x : Got Effect} {g : Got Touch} {ds : List (Happening Contact)} → Does r l x g ds → g ≡ got m t → x ≡ got (touched r m) t
     go (fails n k) e = never k m t e
     go (settles s u k o) e = never k m t e
     go (touches n u o b) e = let zm : n ≡ m = cc in let zt : u ≡ t = cc in λ i. got (touched r (zm i)) (zt i)
@@ -177,7 +181,7 @@ time-same : (r : Receiver) (m n : Touch) → m .time ≡ n .time → touched r m
 unfolding touched rested
 time-same r m n e = ap (timeBy (untimed r)) e
 
-module _ (r : Receiver) (k : Kept r) (x y : Sent) (b : Bytes (x .message)) (fs : List (Frame Contact)) (f : Frame Contact) (gs : List (Frame Contact)) (c : Cut r (x .message) (y .message) fs f gs) (o : opens touchView f ≡ true)
+module _ (r : Receiver) (k : Kept r) (x y : Sent) (b : Bytes (x .message)) (fs : List (Frame Contact)) (f : Frame Contact) (gs : List (Frame Contact)) (c : Cut r (x .message) (y .message) fs f gs) (o : opensAfter r fs f ≡ true)
     (idle : NoneActive (machineAt r fs .table)) where
   abbrev whole : Touch
   whole = record { time = c .time; frames = fs ++ (f ∷ gs) }

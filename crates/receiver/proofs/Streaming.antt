@@ -1,11 +1,12 @@
 -- What a message does to a receiver it does to the receiver's stream.
 -- Assumes nothing.
 use Prim.Native.Nat.{ℕ}
-use mathlib.Core.Path.{_≡_, refl, ap, _∙_}
+use mathlib.Core.Path.{_≡_, refl, sym, ap, subst, _∙_}
 use mathlib.Core.Bool.{Bool, true, false, cond, not}
-use mathlib.Core.List.{List, [], _∷_, _++_}
+use mathlib.Core.List.{List, [], _∷_, _++_, append-nil}
 use lib.Dec.{eqb}
 use lib.ListN.{length}
+use Rattle.paper.specs.Refusals.{none}
 use Rattle.messages.specs.declared.Ready.{Ready}
 use Rattle.house.specs.declared.Contact.{Contact}
 use Rattle.framing.specs.Frame.{Frame, begunBy}
@@ -13,11 +14,12 @@ use Rattle.touch.specs.Touch.{Touch}
 use Rattle.contacts.specs.Touch.{touchView}
 use Rattle.stream.specs.Stream.{Stream, Given, nothing, settings, frames, dismissal, framesGiven}
 use Rattle.stream.specs.Stream as stream
+use Rattle.stream.specs.Set.{Happening, framesLog, logOf}
 use Rattle.receiver.specs.declared.Receiver.{Receiver}
 use Rattle.receiver.specs.declared.Answer.{Answer}
-use Rattle.receiver.specs.Receive.{machineOf, touched}
+use Rattle.receiver.specs.Receive.{rulesOf, machineOf, touched}
 use Rattle.channel.specs.Marks.{off, mark}
-use Rattle.receiver.specs.History.{Sent, next, wrote, after, written, framesTaken, Unopened, touchProfile, streamOf, machineAt, bytesAt}
+use Rattle.receiver.specs.History.{Sent, next, answerTo, wrote, after, written, framesTaken, dismissIn, dismissalOf, UnopenedAfter, Unopened, touchProfile, streamOf, machineAt, bytesAt}
 use Rattle.receiver.proofs.Became.{Became, became, refused, settles, touches, dismisses}
 
 -- ---- the machine of a receiver after a touch message is the one that its frames leave
@@ -30,7 +32,7 @@ pub machine-touched : (r : Receiver) (m : Touch) → machineOf (touched r m .rec
 unfolding touched
 machine-touched r m =
     let a = machineAt r (m .frames) in
-    λ i. record { table = a .table; running = off-mark (a .running) i }
+    λ i. record { table = a .table; running = off-mark (a .running) i; held = a .held }
 
 pub bytes-touched : (r : Receiver) (m : Touch) → touched r m .bytes ≡ bytesAt r (m .frames)
 unfolding touched
@@ -50,32 +52,39 @@ stream-touched r m = λ i. record { settings = r .settings; machine = machine-to
 -- ---- one message
 
 -- what it is to the stream
-abbrev pub fromBecame : {r : Receiver} {l : List ℕ} {q : Receiver} {s : List ℕ} {a : Answer} {fs : List (Frame Contact)} → Became r l q s a fs → Given Ready Contact
+abbrev pub fromBecame : {r : Receiver} {l : List ℕ} {q : Receiver} {s : List ℕ} {a : Answer} {fs : List (Frame Contact)} {ds : List (Happening Contact)} → Became r l q s a fs ds → Given Ready Contact
 fromBecame (refused n) = nothing
 fromBecame (settles s o) = settings s
 fromBecame (touches m t o e) = frames (m .frames)
 fromBecame (dismisses id t o e) = dismissal id
 
 module _ (r : Receiver) (l : List ℕ) where
-  became-stream : {q : Receiver} {s : List ℕ} {a : Answer} {fs : List (Frame Contact)} (b : Became r l q s a fs) → streamOf q ≡ stream.next touchProfile (streamOf r) (fromBecame b)
+  became-stream : {q : Receiver} {s : List ℕ} {a : Answer} {fs : List (Frame Contact)} {ds : List (Happening Contact)} (b : Became r l q s a fs ds) → streamOf q ≡ stream.next touchProfile (streamOf r) (fromBecame b)
   unfolding stream.next
   became-stream (refused n) = refl
   became-stream (settles s o) = refl
   became-stream (touches m t o e) = stream-touched r m
   became-stream (dismisses id t o e) = refl
 
-  became-bytes : {q : Receiver} {s : List ℕ} {a : Answer} {fs : List (Frame Contact)} (b : Became r l q s a fs) → s ≡ stream.wrote touchProfile (streamOf r) (fromBecame b)
+  became-bytes : {q : Receiver} {s : List ℕ} {a : Answer} {fs : List (Frame Contact)} {ds : List (Happening Contact)} (b : Became r l q s a fs ds) → s ≡ stream.wrote touchProfile (streamOf r) (fromBecame b)
   unfolding stream.wrote
   became-bytes (refused n) = refl
   became-bytes (settles s o) = refl
   became-bytes (touches m t o e) = bytes-touched r m
   became-bytes (dismisses id t o e) = refl
 
-  became-frames : {q : Receiver} {s : List ℕ} {a : Answer} {fs : List (Frame Contact)} (b : Became r l q s a fs) → framesGiven (fromBecame b) ≡ fs
+  became-frames : {q : Receiver} {s : List ℕ} {a : Answer} {fs : List (Frame Contact)} {ds : List (Happening Contact)} (b : Became r l q s a fs ds) → framesGiven (fromBecame b) ≡ fs
   became-frames (refused n) = refl
   became-frames (settles s o) = refl
   became-frames (touches m t o e) = refl
   became-frames (dismisses id t o e) = refl
+
+  became-log : {q : Receiver} {s : List ℕ} {a : Answer} {fs : List (Frame Contact)} {ds : List (Happening Contact)} (b : Became r l q s a fs ds) → logOf touchProfile (streamOf r) (fromBecame b) ≡ framesLog touchView (rulesOf r) (machineOf r) fs ++ ds
+  unfolding framesLog
+  became-log (refused n) = refl
+  became-log (settles s o) = refl
+  became-log (touches m t o e) = sym (append-nil (framesLog touchView (rulesOf r) (machineOf r) (m .frames)))
+  became-log (dismisses id t o e) = refl
 
 -- what a message is to the stream, as the receiver is
 abbrev pub givenBy : Receiver → Sent → Given Ready Contact
@@ -89,6 +98,11 @@ stream-wrote r x = became-bytes r (x .message) (became r x)
 
 pub given-frames : (r : Receiver) (x : Sent) → framesGiven (givenBy r x) ≡ framesTaken r x
 given-frames r x = became-frames r (x .message) (became r x)
+
+-- what happens by it: what becomes of its frames, each where those before it have led, or a contact is dismissed; by a refused one nothing
+pub log-by : (r : Receiver) (x : Sent) → logOf touchProfile (streamOf r) (givenBy r x)
+    ≡ framesLog touchView (rulesOf r) (machineOf r) (framesTaken r x) ++ cond (eqb (answerTo r x .refusal) none) (dismissalOf (dismissIn r (x .message))) []
+log-by r x = became-log r (x .message) (became r x)
 
 -- ---- a history
 
@@ -108,7 +122,10 @@ stream-written r (x ∷ h) =
     let w = stream-written (next r x) h ∙ ap (λ (s : Stream Ready). stream.written touchProfile s (givens (next r x) h)) (stream-next r x) in
     λ i. stream-wrote r x i ++ w i
 
-pub givens-unopened : (r : Receiver) (h : List Sent) → Unopened r h → stream.Unopened touchView (givens r h)
+pub givens-unopened : (r : Receiver) (h : List Sent) → Unopened r h → stream.Unopened touchProfile (streamOf r) (givens r h)
 unfolding Unopened stream.Unopened givens
 givens-unopened r [] u = tt
-givens-unopened r (x ∷ h) u = (ap (stream.unopened touchView) (given-frames r x) ∙ u .0, givens-unopened (next r x) h (u .1))
+givens-unopened r (x ∷ h) u = (
+  subst (UnopenedAfter r []) (sym (given-frames r x)) (u .0),
+  subst (λ (s : Stream Ready). stream.Unopened touchProfile s (givens (next r x) h)) (stream-next r x) (givens-unopened (next r x) h (u .1)),
+)

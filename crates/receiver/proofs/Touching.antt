@@ -25,8 +25,8 @@ use Rattle.framing.specs.declared.BodyHead.{BodyHead}
 use Rattle.touch.specs.declared.CheckedBody.{CheckedBody}
 use Rattle.touch.specs.declared.CheckedBody.the-variants as CheckedBody
 use Rattle.touch.proofs.Passes.{frameBy, Checked, checked}
-use Rattle.machine.specs.Table.{Table, contacts}
-use Rattle.machine.specs.Machine.{Machine, Counts, runBytes}
+use Rattle.machine.specs.Table.{contacts}
+use Rattle.machine.specs.Machine.{Machine, Arrays, arraysIn, Counts, runBytes}
 use Rattle.contacts.specs.Touch.{touchView}
 use Rattle.contacts.specs.Ruling.{Counted}
 use Rattle.runs.specs.Runs.{Ran, Runs}
@@ -34,7 +34,7 @@ use Rattle.runs.specs.declared.Run.{Run}
 use Rattle.receiver.specs.declared.Receiver.{Receiver}
 use Rattle.receiver.specs.declared.Answer.{Answer}
 use Rattle.receiver.specs.declared.Received.{Received}
-use Rattle.receiver.specs.Receive.{rulesOf, machineOf, untimed, judged, touched, refusal, answerOf, timeBy}
+use Rattle.receiver.specs.Receive.{rulesOf, machineOf, arraysOf, ofParts, untimed, judged, touched, refusal, answerOf, timeBy}
 use Rattle.channel.specs.Marks.{off, mark}
 use Rattle.receiver.specs.Events.{answerOfRun, Gives, touchEffect, ample, Tallies, Carried, Carries, Settles}
 use Rattle.receiver.proofs.Weight.{touch-small}
@@ -52,10 +52,10 @@ bytes-of r m = refl
 quotient : (k n : ℕ) → 21 * k ≡ n → k ≡ n / 21
 quotient k n e = omega arith
 
-module _ (r : Receiver) (l : List ℕ) (un : Bool) (eu : un ≡ untimed r) (active : ℕ) (a : Counted active (r .states)) (run : Run) (u : Table) (before after : List ℕ) where
+module _ (r : Receiver) (l : List ℕ) (un : Bool) (eu : un ≡ untimed r) (active : ℕ) (a : Counted active (r .states)) (run : Run) (u : Arrays) (before after : List ℕ) where
   -- ---- counted
 
-  pub tallies : (n : ℕ) → Runs n l un false (off (r .ignoring)) (rulesOf r) active run (machineOf r .table) u before after → Tallies r n l (run .records) before after
+  pub tallies : (n : ℕ) → Runs n l un false (off (r .ignoring)) (rulesOf r) active run (arraysOf r) u before after → Tallies r n l (run .records) before after
   tallies n x =
       record {
         small = x .small;
@@ -65,22 +65,23 @@ module _ (r : Receiver) (l : List ℕ) (un : Bool) (eu : un ≡ untimed r) (acti
 
   -- ---- carried out
 
-  module _ (h : BodyHead) (x : Runs (h .frames) l un true (off (r .ignoring)) (rulesOf r) active run (machineOf r .table) u before after)
+  module _ (h : BodyHead) (x : Runs (h .frames) l un true (off (r .ignoring)) (rulesOf r) active run (arraysOf r) u before after)
       (b i : ℕ) (time : Milliseconds) (answer : Answer)
       (eb : b ≡ begunBy 1 (r .begun) (h .frames)) (ei : i ≡ mark (not (run .running))) (et : time ≡ cond un (record { 0 = 0 }) (h .time)) (ea : answer ≡ answerOfRun run time) where
+    -- the receiver after it
+    abbrev after-run : Receiver
+    after-run = ofParts (record { ready = r .ready; begun = b; ignoring = i; settings = r .settings }) u
+
     module _ (m : Touch) (rest : List ℕ) (eh : h ≡ bodyHeadOf m) (e : readSeries frameBy false (h .frames) l ≡ got (m .frames) rest) where
-      ran : Ran (rulesOf r) (timedFrames (untimed r) (m .frames)) true (off (r .ignoring)) run (machineOf r .table) u before after
+      ran : Ran (rulesOf r) (timedFrames (untimed r) (m .frames)) true (off (r .ignoring)) run (arraysOf r) u before after
       ran = rw (frames-same r un eu (m .frames)) at (x .ran (m .frames) rest e a)
 
-      receiver-is : record { ready = r .ready; begun = b; ignoring = i; settings = r .settings; states = u .states; xs = u .xs; ys = u .ys } ≡ touched r m .receiver
+      receiver-is : after-run ≡ touched r m .receiver
       unfolding touched
       receiver-is =
           let eb′ = eb ∙ ap (λ (g : BodyHead). begunBy 1 (r .begun) (g .frames)) eh in
           let ei′ = ei ∙ ap (λ (k : Machine). mark (not (k .running))) (ran .machine) in
-          let s = ap (λ (k : Machine). k .table .states) (ran .machine) in
-          let p = ap (λ (k : Machine). k .table .xs) (ran .machine) in
-          let q = ap (λ (k : Machine). k .table .ys) (ran .machine) in
-          λ j. record { ready = r .ready; begun = eb′ j; ignoring = ei′ j; settings = r .settings; states = s j; xs = p j; ys = q j }
+          λ j. ofParts (record { ready = r .ready; begun = eb′ j; ignoring = ei′ j; settings = r .settings }) (arraysIn (ran .machine j))
 
       answer-is : answer ≡ answerOf (touched r m)
       unfolding touched
@@ -99,14 +100,14 @@ module _ (r : Receiver) (l : List ℕ) (un : Bool) (eu : un ≡ untimed r) (acti
           })
 
       carried : length (touched r m .bytes) ≤ length before
-          → Carried (touched r m) before (record { receiver = record { ready = r .ready; begun = b; ignoring = i; settings = r .settings; states = u .states; xs = u .xs; ys = u .ys }; answer = answer }) after
+          → Carried (touched r m) before (record { receiver = after-run; answer = answer }) after
       carried room =
           record {
             answer = λ j. record { receiver = receiver-is j; answer = answer-is j };
             output = rw (bytes-of r m) (ran .output .written refl (rw (bytes-of r m) at room));
           }
 
-    pub carries : Carries r h l before (record { receiver = record { ready = r .ready; begun = b; ignoring = i; settings = r .settings; states = u .states; xs = u .xs; ys = u .ys }; answer = answer }) after
+    pub carries : Carries r h l before (record { receiver = after-run; answer = answer }) after
     carries = record { whole = a .all; carried = carried }
 
 -- ---- counted first

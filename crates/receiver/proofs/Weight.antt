@@ -39,7 +39,7 @@ count-set (x ∷ ss) zero s = omega (arith, one-le (active s))
 count-set (x ∷ ss) (suc id) s = omega (arith, count-set ss id s)
 
 module _ (rules : Rules Contact) where
-  after-count : (t : Table) (cs : List Contact) → countActive (tableAfter touchView (rules .next) t cs .states) ≤ countActive (t .states) + length cs
+  pub after-count : (t : Table) (cs : List Contact) → countActive (tableAfter touchView (rules .next) t cs .states) ≤ countActive (t .states) + length cs
   unfolding tableAfter moved withContact
   after-count t [] = omega arith
   after-count t (c ∷ cs) = omega (arith, after-count (moved touchView (rules .next) t c) cs, count-set (t .states) (c .id) (nextOf touchView (rules .next) t c))

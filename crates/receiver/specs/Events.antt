@@ -1,9 +1,9 @@
 -- What the calls for the single events answer: of the effect that a body has, and of the frames of a touch message.
 use Prim.Native.Nat.{ℕ, _+_, _*_, _/_, _≤_}
 use mathlib.Core.Path.{_≡_}
-use mathlib.Core.Bool.{Bool, false}
+use mathlib.Core.Bool.{Bool, false, cond}
 use mathlib.Core.List.{List}
-use lib.Dec.{leb}
+use lib.Dec.{eqb, leb}
 use lib.ListN.{length}
 use Rattle.paper.specs.Refusals.{none, trailing}
 use Rattle.paper.specs.declared.Milliseconds.{Milliseconds}
@@ -17,32 +17,29 @@ use Rattle.framing.specs.Frame.{Frame, timedFrames}
 use Rattle.framing.specs.Format.{bodyHeadOf}
 use Rattle.touch.specs.Touch.{Touch, frame, body}
 use Rattle.framing.specs.declared.BodyHead.{BodyHead}
-use Rattle.machine.specs.Table.{Table, contacts}
-use Rattle.machine.specs.Machine.{runBytes}
+use Rattle.machine.specs.Table.{contacts}
+use Rattle.machine.specs.Held.{heldWithout}
+use Rattle.machine.specs.Machine.{Arrays, runBytes}
 use Rattle.runs.specs.Runs.{mostRecords}
 use Rattle.runs.specs.declared.Run.{Run}
 use Rattle.receiver.specs.declared.Receiver.{Receiver}
 use Rattle.receiver.specs.declared.Answer.{Answer}
 use Rattle.receiver.specs.declared.Received.{Received}
-use Rattle.receiver.specs.declared.Marks.{Marks}
 use Rattle.receiver.specs.declared.Turn.{Turn}
-use Rattle.receiver.specs.Receive.{Effect, rulesOf, machineOf, judged, settled, touched, dismissedBy, draftOf, answerOf, receiverAfter, answerAfter, untimed}
+use Rattle.receiver.specs.Receive.{Effect, rulesOf, machineOf, ofParts, judged, settled, touched, dismissedBy, draftOf, answerOf, receiverAfter, answerAfter, untimed}
 use Rattle.contacts.specs.Touch.{touchView}
 
--- ---- a receiver as its parts: the marks, and the contacts where they stand
-
-abbrev pub marksOf : Receiver → Marks
-marksOf r = record { ready = r .ready; begun = r .begun; ignoring = r .ignoring; settings = r .settings }
-
-abbrev pub ofParts : Marks → Table → Receiver
-ofParts m t = record { ready = m .ready; begun = m .begun; ignoring = m .ignoring; settings = m .settings; states = t .states; xs = t .xs; ys = t .ys }
-
-abbrev pub turned : Turn → Table → Received
-turned n t = record { receiver = ofParts (n .marks) t; answer = n .answer }
+-- a receiver in parts after a message
+abbrev pub turned : Turn → Arrays → Received
+turned n a = record { receiver = ofParts (n .marks) a; answer = n .answer }
 
 -- the answer of a run
 abbrev pub answerOfRun : Run → Milliseconds → Answer
 answerOfRun run time = record { refusal = none; injected = run .injected; ignored = run .ignored; cancelled = run .cancelled; time = time; records = run .records }
+
+-- an accepted dismissal takes the id out of the set
+abbrev pub heldBy : ℕ → List ℕ → ℕ → List ℕ
+heldBy number held id = cond (eqb number none) (heldWithout held id) held
 
 -- ---- the answer for an effect, or for the refusal in its place
 

@@ -1,14 +1,14 @@
 -- Histories of one receiver, and the path of a contact through the records that they write.
 use Prim.Native.Nat.{ℕ}
 use mathlib.Core.Path.{_≡_}
-use mathlib.Core.Bool.{true, false, cond, not}
+use mathlib.Core.Bool.{Bool, false, cond, not}
 use mathlib.Core.List.{List, [], _∷_, _++_, map}
 use lib.Dec.{eqb}
-use Rattle.paper.specs.Refusals.{none, noRoom}
+use Rattle.paper.specs.Refusals.{none, noRoom, trailing}
 use Rattle.paper.specs.declared.Milliseconds.{Milliseconds}
 use Rattle.digits.specs.Digits.{Bytes}
 use Rattle.slices.specs.Writing.{Draft, bytes, refuse, given}
-use Rattle.formats.specs.Format.{Got, got, bad, andThen}
+use Rattle.formats.specs.Format.{Got, got, bad, andThen, whole, byte}
 use Rattle.fields.specs.Integers.{taken}
 use Rattle.states.specs.Table.{next as nextState}
 use Rattle.house.specs.Layout.{recordOf}
@@ -17,20 +17,21 @@ use Rattle.house.specs.declared.Point.{Point}
 use Rattle.house.specs.declared.Contact.{Contact}
 use Rattle.house.specs.declared.Record.{Record}
 use Rattle.house.specs.declared.Record.the-variants as Record
-use Rattle.messages.specs.Header.{headed, touch, writeMessage}
+use Rattle.messages.specs.Header.{headed, touch, dismiss, writeMessage}
 use Rattle.messages.specs.declared.Ready.{Ready}
 use Rattle.framing.specs.Frame.{Frame}
 use Rattle.touch.specs.Touch.{Touch, body}
 use Rattle.touch.specs.Touch as format
-use Rattle.machine.specs.Table.{Table, resting}
+use Rattle.machine.specs.Table.{Table}
 use Rattle.machine.specs.Machine.{Machine}
 use Rattle.receiver.specs.declared.Receiver.{Receiver}
 use Rattle.receiver.specs.declared.Answer.{Answer}
-use Rattle.receiver.specs.Receive.{machineOf, withTable, judged, takes, effect, draftOf, receiverAfter, answerAfter}
+use Rattle.receiver.specs.Receive.{machineOf, ofParts, restingArrays, judged, takes, effect, draftOf, receiverAfter, answerAfter}
 use Rattle.channel.specs.Marks.{off, untimedBy}
 use Rattle.contacts.specs.Touch.{touchView, touchRules}
-use Rattle.stream.specs.Stream.{Profile, Stream, unopened}
+use Rattle.stream.specs.Stream.{Profile, Stream, opens}
 use Rattle.stream.specs.Stream as stream
+use Rattle.stream.specs.Set.{Happening, dismissing}
 use Rattle.stream.specs.Path.{Seen, head, contact, refused, Path}
 use Rattle.stream.specs.Path as paths
 
@@ -103,10 +104,14 @@ framesOf (bad n) = []
 unfoldable pub framesTaken : Receiver → Sent → List (Frame Contact)
 framesTaken r x = cond (eqb (answerTo r x .refusal) none) (framesOf (touchIn r (x .message))) []
 
--- no opening frame is accepted
-unfoldable pub Unopened : Receiver → List Sent → Type 0
-Unopened r [] = Unit
-Unopened r (x ∷ h) = (unopened touchView (framesTaken r x) ≡ true) × Unopened (next r x) h
+-- a dismissal, likewise: the id of the contact
+unfoldable pub dismissIn : Receiver → List ℕ → Got ℕ
+dismissIn r l = andThen (headed (takes r) l) (λ e b. cond (eqb e dismiss) (whole byte trailing b) (bad none))
+
+-- .. and what happens by it
+abbrev pub dismissalOf : Got ℕ → List (Happening Contact)
+dismissalOf (got id t) = dismissing id ∷ []
+dismissalOf (bad n) = []
 
 -- ---- a receiver has one stream
 
@@ -124,6 +129,19 @@ machineAt r fs = stream.machineAt touchProfile (streamOf r) fs
 abbrev pub bytesAt : Receiver → List (Frame Contact) → List ℕ
 bytesAt r fs = stream.bytesAt touchProfile (streamOf r) fs
 
+-- the frame f is opening, after the frames fs of its message
+abbrev pub opensAfter : Receiver → List (Frame Contact) → Frame Contact → Bool
+opensAfter r fs f = opens touchView (machineAt r fs) f
+
+-- none of the frames gs is, after fs and those of gs before it
+abbrev pub UnopenedAfter : Receiver → List (Frame Contact) → List (Frame Contact) → Type 0
+UnopenedAfter r fs gs = stream.UnopenedAfter touchProfile (streamOf r) fs gs
+
+-- no opening frame is accepted
+unfoldable pub Unopened : Receiver → List Sent → Type 0
+Unopened r [] = Unit
+Unopened r (x ∷ h) = UnopenedAfter r [] (framesTaken r x) × Unopened (next r x) h
+
 -- the frame f is cancelled, after the frames fs of its message
 abbrev pub CancelledAfter : Receiver → List (Frame Contact) → Frame Contact → Type 0
 CancelledAfter r fs f = stream.CancelledAfter touchProfile (streamOf r) fs f
@@ -132,11 +150,15 @@ CancelledAfter r fs f = stream.CancelledAfter touchProfile (streamOf r) fs f
 abbrev pub Silent : Receiver → Type 0
 Silent r = stream.Silent (streamOf r)
 
+-- the receiver q is silent, and has the settings of r and the set that the frames fs leave of it
+abbrev pub SilentAs : Receiver → List (Frame Contact) → Receiver → Type 0
+SilentAs r fs q = stream.SilentAs touchProfile (streamOf r) fs (streamOf q)
+
 -- ---- the rested receiver
 
 -- "A rested receiver has accepted event 2, is past its first frame, is running, and has no active contact."
 unfoldable pub rested : Ready → Receiver
-rested s = withTable (record { ready = 1; begun = 1; ignoring = 0; settings = s; states = []; xs = []; ys = [] }) resting
+rested s = ofParts (record { ready = 1; begun = 1; ignoring = 0; settings = s }) restingArrays
 
 -- the bytes of a touch message
 abbrev pub messageOf : Touch → List ℕ

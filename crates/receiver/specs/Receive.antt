@@ -19,10 +19,11 @@ use Rattle.framing.specs.Frame.{Frame, timedFrames, begunBy}
 use Rattle.channel.specs.Marks.{off, mark, untimedBy, judgedBy}
 use Rattle.touch.specs.Touch.{Touch, body}
 use Rattle.machine.specs.Rules.{Rules}
-use Rattle.machine.specs.Table.{Table, resting}
-use Rattle.machine.specs.Machine.{Machine, runMachine, runBytes, runCounts, dismissTable, dismissBytes, Counts}
+use Rattle.machine.specs.Table.{resting}
+use Rattle.machine.specs.Machine.{Machine, Arrays, arraysIn, inMode, runningWith, runMachine, runBytes, runCounts, dismissArrays, dismissBytes, Counts}
 use Rattle.machine.specs.Machine as machine
 use Rattle.receiver.specs.declared.Receiver.{Receiver}
+use Rattle.receiver.specs.declared.Marks.{Marks}
 use Rattle.receiver.specs.declared.Answer.{Answer}
 use Rattle.contacts.specs.Touch.{touchView, touchRules}
 
@@ -31,18 +32,40 @@ use Rattle.contacts.specs.Touch.{touchView, touchRules}
 abbrev pub rulesOf : Receiver → Rules Contact
 rulesOf r = touchRules (r .settings .most)
 
-abbrev pub machineOf : Receiver → Machine
-machineOf r = record { table = record { states = r .states; xs = r .xs; ys = r .ys }; running = off (r .ignoring) }
+abbrev pub arraysOf : Receiver → Arrays
+arraysOf r = record { table = record { states = r .states; xs = r .xs; ys = r .ys }; held = r .held }
 
-abbrev pub withTable : Receiver → Table → Receiver
-withTable r t = record { ready = r .ready; begun = r .begun; ignoring = r .ignoring; settings = r .settings; states = t .states; xs = t .xs; ys = t .ys }
+abbrev pub machineOf : Receiver → Machine
+machineOf r = inMode (off (r .ignoring)) (arraysOf r)
+
+-- what a receiver has beside its arrays, by value
+abbrev pub marksOf : Receiver → Marks
+marksOf r = record { ready = r .ready; begun = r .begun; ignoring = r .ignoring; settings = r .settings }
+
+-- a receiver as its parts: the marks, and the contacts and the set where they stand
+abbrev pub ofParts : Marks → Arrays → Receiver
+ofParts m a =
+    record {
+      ready = m .ready;
+      begun = m .begun;
+      ignoring = m .ignoring;
+      settings = m .settings;
+      states = a .table .states;
+      xs = a .table .xs;
+      ys = a .table .ys;
+      held = a .held;
+    }
+
+-- every contact out of range, and the set empty
+abbrev pub restingArrays : Arrays
+restingArrays = arraysIn (runningWith resting)
 
 abbrev pub noSettings : Ready
 noSettings = record { flags = 0; version = 0; most = 0 }
 
 -- "A fresh receiver is unready, running, before its first frame, with settings 0 and all contacts out of range."
 unfoldable pub fresh : Receiver
-fresh = withTable (record { ready = 0; begun = 0; ignoring = 0; settings = noSettings; states = []; xs = []; ys = [] }) resting
+fresh = ofParts (record { ready = 0; begun = 0; ignoring = 0; settings = noSettings }) restingArrays
 
 -- ---- what a message does, before its room is asked
 
@@ -58,7 +81,7 @@ quiet r s = record { receiver = r; counts = machine.none; time = record { 0 = 0 
 
 -- client ready: the settings, which a receiver takes once
 abbrev pub settled : Receiver → Ready → Effect
-settled r s = quiet (record { ready = 1; begun = r .begun; ignoring = r .ignoring; settings = s; states = r .states; xs = r .xs; ys = r .ys }) []
+settled r s = quiet (ofParts (record { ready = 1; begun = r .begun; ignoring = r .ignoring; settings = s }) (arraysOf r)) []
 
 -- "With ready flag 2 set, .. the receiver answers encodeTime 0 and writes offset 0 (000, 2.2.3.2)."
 abbrev pub untimed : Receiver → Bool
@@ -76,22 +99,17 @@ touched r m =
     let fs : List (Frame Contact) = timedFrames (untimed r) (m .frames) in
     let a : Machine = runMachine touchView (rulesOf r) (machineOf r) fs in
     record {
-      receiver = record {
-        ready = r .ready;
-        begun = begunBy 1 (r .begun) (length (m .frames));
-        ignoring = mark (not (a .running));
-        settings = r .settings;
-        states = a .table .states;
-        xs = a .table .xs;
-        ys = a .table .ys;
-      };
+      receiver =
+          ofParts
+          (record { ready = r .ready; begun = begunBy 1 (r .begun) (length (m .frames)); ignoring = mark (not (a .running)); settings = r .settings })
+          (arraysIn a);
       counts = runCounts touchView (rulesOf r) (machineOf r) fs;
       time = timeBy (untimed r) (m .time);
       bytes = runBytes touchView (rulesOf r) (machineOf r) fs;
     }
 
 abbrev pub dismissedBy : Receiver → ℕ → Effect
-dismissedBy r id = quiet (withTable r (dismissTable (machineOf r .table) id)) (dismissBytes touchView (machineOf r .table) id)
+dismissedBy r id = quiet (ofParts (marksOf r) (dismissArrays (arraysOf r) id)) (dismissBytes touchView (machineOf r .table) id)
 
 -- "The receiver takes event 2 until it accepts one, then only 3 and 6."
 abbrev pub takes : Receiver → List ℕ

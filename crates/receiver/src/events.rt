@@ -11,11 +11,11 @@ ghost use Prim.Native.Nat.{ℕ};
 ghost use mathlib.Core.Path.{_≡_};
 ghost use mathlib.Core.Bool.{true};
 ghost use mathlib.Core.List.{List};
-ghost use Rattle.machine.specs.Table.{Table};
-ghost use Rattle.contacts.specs.Ruling.{tableFrom};
-ghost use Rattle.receiver.specs.Receive.{effect, refusal};
+ghost use Rattle.machine.specs.Machine.{Arrays};
+ghost use Rattle.contacts.specs.Ruling.{arraysFrom};
+ghost use Rattle.receiver.specs.Receive.{ofParts, effect, refusal};
 ghost use Rattle.channel.specs.Marks.{off};
-ghost use Rattle.receiver.specs.Events.{ofParts, turned, Gives, readyEffect, dismissEffect};
+ghost use Rattle.receiver.specs.Events.{turned, heldBy, Gives, readyEffect, dismissEffect};
 
 // The answer where no frame was run.
 fn quiet(marks: Marks, refusal: u8, records: usize) -> Turn
@@ -56,7 +56,7 @@ fn settle(marks: Marks, settings: Ready) -> Marks
 
 // The body of a client ready.
 fn receive_settings(marks: Marks, body: &[u8]) -> Turn
-    ensures { λ r. ⌜ ((t : Table) (d : List ℕ) → Gives (ofParts marks t) (readyEffect (ofParts marks t) (now (body .entry))) d (turned r t) d) ⌝ }
+    ensures { λ r. ⌜ ((a : Arrays) (d : List ℕ) → Gives (ofParts marks a) (readyEffect (ofParts marks a) (now (body .entry))) d (turned r a) d) ⌝ }
 {
     match messages::read_ready_body(body) {
         ReadReady::Refused(e) => refuse(marks, e),
@@ -66,7 +66,7 @@ fn receive_settings(marks: Marks, body: &[u8]) -> Turn
 
 // Client ready, all that an unready receiver takes.
 pub(crate) fn receive_ready(marks: Marks, message: &[u8]) -> Turn
-    ensures { λ r. ⌜ (off (marks .ready) ≡ true → (t : Table) (d : List ℕ) → Gives (ofParts marks t) (effect (ofParts marks t) (now (message .entry))) d (turned r t) d) ⌝ }
+    ensures { λ r. ⌜ (off (marks .ready) ≡ true → (a : Arrays) (d : List ℕ) → Gives (ofParts marks a) (effect (ofParts marks a) (now (message .entry))) d (turned r a) d) ⌝ }
 {
     match messages::read_header(message, messages::CLIENT_READY, messages::CLIENT_READY) {
         Header::Refused(e) => refuse(marks, e),
@@ -74,7 +74,17 @@ pub(crate) fn receive_ready(marks: Marks, message: &[u8]) -> Turn
     }
 }
 
-// Dismiss: a hovering contact goes out of range.
+// The id of an accepted dismissal leaves the set.
+fn forget(refusal: u8, id: u8, held: &mut [u8; 256])
+    ensures { λ _. ⌜ now (held .exit) ≡ heldBy refusal (now (held .entry)) id ⌝ }
+{
+    if refusal == 0 {
+        let own = id as usize;
+        held[own] = 0;
+    }
+}
+
+// Dismiss: a hovering contact goes out of range, and the id leaves the set.
 pub(crate) fn receive_dismiss(
     marks: Marks,
     body: &[u8],
@@ -82,13 +92,15 @@ pub(crate) fn receive_dismiss(
     states: &mut [u8; 256],
     xs: &mut [i32; 256],
     ys: &mut [i32; 256],
+    held: &mut [u8; 256],
 ) -> Turn
-    ensures { λ r. ⌜ Gives (ofParts marks (tableFrom (now (states .entry)) (now (xs .entry)) (now (ys .entry)))) (dismissEffect (ofParts marks (tableFrom (now (states .entry)) (now (xs .entry)) (now (ys .entry)))) (now (body .entry))) (now (output .entry)) (turned r (tableFrom (now (states .exit)) (now (xs .exit)) (now (ys .exit)))) (now (output .exit)) ⌝ }
+    ensures { λ r. ⌜ Gives (ofParts marks (arraysFrom (now (states .entry)) (now (xs .entry)) (now (ys .entry)) (now (held .entry)))) (dismissEffect (ofParts marks (arraysFrom (now (states .entry)) (now (xs .entry)) (now (ys .entry)) (now (held .entry)))) (now (body .entry))) (now (output .entry)) (turned r (arraysFrom (now (states .exit)) (now (xs .exit)) (now (ys .exit)) (now (held .exit)))) (now (output .exit)) ⌝ }
 {
     match messages::read_dismiss_body(body) {
         ReadDismiss::Refused(e) => refuse(marks, e),
         ReadDismiss::Id(id) => {
             let written = moves::dismiss(output, id, states, xs, ys);
+            forget(written.refusal, id, held);
             quiet(marks, written.refusal, written.bytes / house::RECORD_BYTES)
         }
     }

@@ -9,9 +9,10 @@ use runs::Run;
 use touch::CheckedBody;
 ghost use mathlib.Core.Path.{_≡_};
 ghost use mathlib.Core.Bool.{cond, not};
-ghost use Rattle.contacts.specs.Ruling.{tableFrom};
+ghost use Rattle.contacts.specs.Ruling.{arraysFrom};
 ghost use Rattle.channel.specs.Marks.{off, mark};
-ghost use Rattle.receiver.specs.Events.{ofParts, turned, answerOfRun, Gives, touchEffect, ample, Tallies, Carries, Settles};
+ghost use Rattle.receiver.specs.Receive.{ofParts};
+ghost use Rattle.receiver.specs.Events.{turned, answerOfRun, Gives, touchEffect, ample, Tallies, Carries, Settles};
 
 // How many contacts there are: an id is a byte.
 const CONTACTS: usize = 256;
@@ -58,7 +59,7 @@ fn is_ample(bytes: usize, room: usize) -> bool
     bytes / 2 + CONTACTS <= room / house::RECORD_BYTES
 }
 
-// How many records the frames give, by a run over a copy of the contacts; nothing is written.
+// How many records the frames give, by a run over a copy of the contacts and the set; nothing is written.
 fn tally(
     marks: Marks,
     running: bool,
@@ -68,9 +69,10 @@ fn tally(
     states: &[u8; 256],
     xs: &[i32; 256],
     ys: &[i32; 256],
+    held: &[u8; 256],
 ) -> usize
     requires { ⌜ running ≡ off (marks .ignoring) ⌝ }
-    ensures { λ r. ⌜ Tallies (ofParts marks (tableFrom (now (states .entry)) (now (xs .entry)) (now (ys .entry)))) n (now (frames .entry)) r (now (output .entry)) (now (output .exit)) ⌝ }
+    ensures { λ r. ⌜ Tallies (ofParts marks (arraysFrom (now (states .entry)) (now (xs .entry)) (now (ys .entry)) (now (held .entry)))) n (now (frames .entry)) r (now (output .entry)) (now (output .exit)) ⌝ }
 {
     let settings = marks.settings;
     let untimed = channel::is_untimed(settings.flags);
@@ -78,6 +80,7 @@ fn tally(
     let active = contacts::active_in(some_states);
     let mut some_xs = *xs;
     let mut some_ys = *ys;
+    let mut some_held = *held;
     let run = runs::run_frames(
         output,
         false,
@@ -90,6 +93,7 @@ fn tally(
         &mut some_states,
         &mut some_xs,
         &mut some_ys,
+        &mut some_held,
     );
     run.records
 }
@@ -103,8 +107,9 @@ fn carry_out(
     states: &mut [u8; 256],
     xs: &mut [i32; 256],
     ys: &mut [i32; 256],
+    held: &mut [u8; 256],
 ) -> Turn
-    ensures { λ r. ⌜ Carries (ofParts marks (tableFrom (now (states .entry)) (now (xs .entry)) (now (ys .entry)))) head (now (frames .entry)) (now (output .entry)) (turned r (tableFrom (now (states .exit)) (now (xs .exit)) (now (ys .exit)))) (now (output .exit)) ⌝ }
+    ensures { λ r. ⌜ Carries (ofParts marks (arraysFrom (now (states .entry)) (now (xs .entry)) (now (ys .entry)) (now (held .entry)))) head (now (frames .entry)) (now (output .entry)) (turned r (arraysFrom (now (states .exit)) (now (xs .exit)) (now (ys .exit)) (now (held .exit)))) (now (output .exit)) ⌝ }
 {
     let settings = marks.settings;
     let untimed = channel::is_untimed(settings.flags);
@@ -121,6 +126,7 @@ fn carry_out(
         states,
         xs,
         ys,
+        held,
     );
     let time = head.time;
     let answer = answer_to(run, time_for(time, untimed));
@@ -145,13 +151,24 @@ fn carry_counted(
     states: &mut [u8; 256],
     xs: &mut [i32; 256],
     ys: &mut [i32; 256],
+    held: &mut [u8; 256],
 ) -> Turn
     requires { ⌜ running ≡ off (marks .ignoring) ⌝ }
-    ensures { λ r. ⌜ Settles (ofParts marks (tableFrom (now (states .entry)) (now (xs .entry)) (now (ys .entry)))) head (now (frames .entry)) (now (output .entry)) (turned r (tableFrom (now (states .exit)) (now (xs .exit)) (now (ys .exit)))) (now (output .exit)) ⌝ }
+    ensures { λ r. ⌜ Settles (ofParts marks (arraysFrom (now (states .entry)) (now (xs .entry)) (now (ys .entry)) (now (held .entry)))) head (now (frames .entry)) (now (output .entry)) (turned r (arraysFrom (now (states .exit)) (now (xs .exit)) (now (ys .exit)) (now (held .exit)))) (now (output .exit)) ⌝ }
 {
-    let records = tally(marks, running, head.frames, frames, output, states, xs, ys);
+    let records = tally(
+        marks,
+        running,
+        head.frames,
+        frames,
+        output,
+        states,
+        xs,
+        ys,
+        held,
+    );
     if house::RECORD_BYTES * records <= output.len() {
-        return carry_out(marks, head, frames, output, states, xs, ys);
+        return carry_out(marks, head, frames, output, states, xs, ys, held);
     }
     refuse(marks, paper::NO_ROOM)
 }
@@ -165,8 +182,9 @@ pub(crate) fn receive_touch(
     states: &mut [u8; 256],
     xs: &mut [i32; 256],
     ys: &mut [i32; 256],
+    held: &mut [u8; 256],
 ) -> Turn
-    ensures { λ r. ⌜ Gives (ofParts marks (tableFrom (now (states .entry)) (now (xs .entry)) (now (ys .entry)))) (touchEffect (ofParts marks (tableFrom (now (states .entry)) (now (xs .entry)) (now (ys .entry)))) (now (body .entry))) (now (output .entry)) (turned r (tableFrom (now (states .exit)) (now (xs .exit)) (now (ys .exit)))) (now (output .exit)) ⌝ }
+    ensures { λ r. ⌜ Gives (ofParts marks (arraysFrom (now (states .entry)) (now (xs .entry)) (now (ys .entry)) (now (held .entry)))) (touchEffect (ofParts marks (arraysFrom (now (states .entry)) (now (xs .entry)) (now (ys .entry)) (now (held .entry)))) (now (body .entry))) (now (output .entry)) (turned r (arraysFrom (now (states .exit)) (now (xs .exit)) (now (ys .exit)) (now (held .exit)))) (now (output .exit)) ⌝ }
 {
     let settings = marks.settings;
     let judged = channel::is_judged(settings.flags, marks.begun);
@@ -176,10 +194,10 @@ pub(crate) fn receive_touch(
     };
     let frames = &body[at..];
     if is_ample(body.len(), output.len()) {
-        return carry_out(marks, head, frames, output, states, xs, ys);
+        return carry_out(marks, head, frames, output, states, xs, ys, held);
     }
     if marks.ignoring == 0 {
-        return carry_counted(marks, true, head, frames, output, states, xs, ys);
+        return carry_counted(marks, true, head, frames, output, states, xs, ys, held);
     }
-    carry_counted(marks, false, head, frames, output, states, xs, ys)
+    carry_counted(marks, false, head, frames, output, states, xs, ys, held)
 }

@@ -1,4 +1,4 @@
-// The session host's receiver: the ready settings, 256 contacts and a mode.
+// The session host's receiver: the ready settings, 256 contacts, a mode, and the set of ids that is kept while ignoring.
 mod events;
 mod frames;
 
@@ -6,9 +6,9 @@ use messages::Header;
 use messages::Ready;
 use paper::Milliseconds;
 ghost use mathlib.Core.Path.{_≡_};
-ghost use Rattle.contacts.specs.Ruling.{tableFrom};
+ghost use Rattle.contacts.specs.Ruling.{arraysFrom};
 ghost use Rattle.receiver.specs.Receive as spec;
-ghost use Rattle.receiver.specs.Events.{marksOf, ofParts};
+ghost use Rattle.receiver.specs.Receive.{marksOf, ofParts};
 
 // One connection's receiver. Each mark is off where it is 0; a fresh receiver is all zeros.
 #[repr(C)]
@@ -23,6 +23,8 @@ pub struct Receiver {
     pub states: [u8; 256],
     pub xs: [i32; 256],
     pub ys: [i32; 256],
+    // While ignoring: whose id is kept from opening by hovering. All 0 while running.
+    pub held: [u8; 256],
 }
 
 // The most that a message writes: 48 KiB.
@@ -46,7 +48,7 @@ pub struct Received {
     pub answer: Answer,
 }
 
-// A receiver beside its contacts.
+// A receiver beside its contacts and its set.
 #[repr(C)]
 pub struct Marks {
     pub ready: u8,
@@ -78,11 +80,12 @@ pub fn fresh() -> Receiver
         states: [0; 256],
         xs: [0; 256],
         ys: [0; 256],
+        held: [0; 256],
     }
 }
 
 // A message to a receiver that is lent in parts, judged and carried out, or refused with nothing changed: the marks after it, and the
-// answer; the contacts are changed where they stand.
+// answer; the contacts and the set are changed where they stand.
 pub fn receive_parts(
     marks: Marks,
     message: &[u8],
@@ -90,8 +93,9 @@ pub fn receive_parts(
     states: &mut [u8; 256],
     xs: &mut [i32; 256],
     ys: &mut [i32; 256],
+    held: &mut [u8; 256],
 ) -> Turn
-    ensures { λ r. ⌜ spec.Receives (ofParts marks (tableFrom (now (states .entry)) (now (xs .entry)) (now (ys .entry)))) (now (message .entry)) (now (output .entry)) (ofParts (r .marks) (tableFrom (now (states .exit)) (now (xs .exit)) (now (ys .exit)))) (r .answer) (now (output .exit)) ⌝ }
+    ensures { λ r. ⌜ spec.Receives (ofParts marks (arraysFrom (now (states .entry)) (now (xs .entry)) (now (ys .entry)) (now (held .entry)))) (now (message .entry)) (now (output .entry)) (ofParts (r .marks) (arraysFrom (now (states .exit)) (now (xs .exit)) (now (ys .exit)) (now (held .exit)))) (r .answer) (now (output .exit)) ⌝ }
 {
     if marks.ready == 0 {
         return events::receive_ready(marks, message);
@@ -101,14 +105,14 @@ pub fn receive_parts(
         Header::Event(e) => {
             let body = &message[messages::HEADER_BYTES..];
             if e == messages::TOUCH {
-                return frames::receive_touch(marks, body, output, states, xs, ys);
+                return frames::receive_touch(marks, body, output, states, xs, ys, held);
             }
-            events::receive_dismiss(marks, body, output, states, xs, ys)
+            events::receive_dismiss(marks, body, output, states, xs, ys, held)
         }
     }
 }
 
-// What a receiver has beside its contacts.
+// What a receiver has beside its contacts and its set.
 pub fn marks_of(receiver: Receiver) -> Marks
     ensures { λ r. ⌜ r ≡ marksOf receiver ⌝ }
 {
@@ -121,9 +125,15 @@ pub fn marks_of(receiver: Receiver) -> Marks
     }
 }
 
-// The receiver that has these marks and contacts.
-pub fn of_parts(marks: Marks, states: [u8; 256], xs: [i32; 256], ys: [i32; 256]) -> Receiver
-    ensures { λ r. ⌜ r ≡ ofParts marks (tableFrom states xs ys) ⌝ }
+// The receiver that has these marks, contacts and set.
+pub fn of_parts(
+    marks: Marks,
+    states: [u8; 256],
+    xs: [i32; 256],
+    ys: [i32; 256],
+    held: [u8; 256],
+) -> Receiver
+    ensures { λ r. ⌜ r ≡ ofParts marks (arraysFrom states xs ys held) ⌝ }
 {
     let settings = marks.settings;
     Receiver {
@@ -134,21 +144,31 @@ pub fn of_parts(marks: Marks, states: [u8; 256], xs: [i32; 256], ys: [i32; 256])
         states: states,
         xs: xs,
         ys: ys,
+        held: held,
     }
 }
 
-// A message, judged and carried out, or refused with nothing changed. The contacts are copied once, and lent to all that follows.
+// A message, judged and carried out, or refused with nothing changed. The contacts and the set are copied once, and lent to all that follows.
 pub fn receive(receiver: Receiver, message: &[u8], output: &mut [u8]) -> Received
     ensures { λ r. ⌜ spec.Receives receiver (now (message .entry)) (now (output .entry)) (r .receiver) (r .answer) (now (output .exit)) ⌝ }
 {
     let mut states = receiver.states;
     let mut xs = receiver.xs;
     let mut ys = receiver.ys;
+    let mut held = receiver.held;
     let marks = marks_of(receiver);
-    let turn = receive_parts(marks, message, output, &mut states, &mut xs, &mut ys);
+    let turn = receive_parts(
+        marks,
+        message,
+        output,
+        &mut states,
+        &mut xs,
+        &mut ys,
+        &mut held,
+    );
     let answer = turn.answer;
     Received {
-        receiver: of_parts(turn.marks, states, xs, ys),
+        receiver: of_parts(turn.marks, states, xs, ys, held),
         answer: answer,
     }
 }

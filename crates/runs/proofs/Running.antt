@@ -24,9 +24,8 @@ use Rattle.frame_records.specs.declared.FoundHead.{FoundHead}
 use Rattle.frame_records.specs.Frames.{FindsHead}
 use Rattle.frame_records.proofs.Finding.{Turn, found-by-head}
 use Rattle.frame_records.proofs.Finding as finding
-use Rattle.machine.specs.Table.{Table}
 use Rattle.machine.specs.Rules.{Rules}
-use Rattle.machine.specs.Machine.{Machine, none, plus, countOf, verdict, stepMachine, stepBytes, runMachine, runBytes, runCounts}
+use Rattle.machine.specs.Machine.{Machine, Arrays, arraysIn, inMode, none, plus, countOf, verdict, stepMachine, stepBytes, runMachine, runBytes, runCounts}
 use Rattle.machine.proofs.Machine.{none-plus, plus-none, plus-assoc}
 use Rattle.contacts.specs.Touch.{touchView}
 use Rattle.contacts.specs.Ruling.{contactsOf, Counted}
@@ -80,10 +79,10 @@ module _ (rules : Rules Contact) (m : Machine) where
 -- ---- the run under way: of the frames fs, in whole from the machine m on, those that are left begin at `at`
 
 module _ (rules : Rules Contact) (untimed wet : Bool) (l : List ℕ) (m : Machine) (fs : List (Frame Contact)) (end out₀ : List ℕ) where
-  pub record Underway (run : Run) (t : Table) (out : List ℕ) (pos at left : ℕ) : Type 0 where
+  pub record Underway (run : Run) (t : Arrays) (out : List ℕ) (pos at left : ℕ) : Type 0 where
     pub ahead : List (Frame Contact)
     pub read : readSeries frameBy false left (drop at l) ≡ got ahead end
-    pub active : Counted (run .active) (t .states)
+    pub active : Counted (run .active) (t .table .states)
     pub machine : runMachine touchView rules (machineIn run t) (timedFrames untimed ahead) ≡ runMachine touchView rules m (timedFrames untimed fs)
     pub counts : plus (countsOf run) (runCounts touchView rules (machineIn run t) (timedFrames untimed ahead)) ≡ runCounts touchView rules m (timedFrames untimed fs)
     pub records : 21 * run .records + length (runBytes touchView rules (machineIn run t) (timedFrames untimed ahead)) ≡ length (runBytes touchView rules m (timedFrames untimed fs))
@@ -93,8 +92,8 @@ module _ (rules : Rules Contact) (untimed wet : Bool) (l : List ℕ) (m : Machin
 
 module _ (rules : Rules Contact) (untimed wet : Bool) (l : List ℕ) (fs : List (Frame Contact)) (end out₀ : List ℕ) where
   -- at the start all of it is to come
-  pub underway-first : (run : Run) (t : Table) (n active : ℕ) (running : Bool) → readSeries frameBy false n l ≡ got fs end → Counted active (t .states) → run ≡ started running active
-      → Underway rules untimed wet l (record { table = t; running = running }) fs end out₀ run t out₀ 0 0 n
+  pub underway-first : (run : Run) (t : Arrays) (n active : ℕ) (running : Bool) → readSeries frameBy false n l ≡ got fs end → Counted active (t .table .states) → run ≡ started running active
+      → Underway rules untimed wet l (inMode running t) fs end out₀ run t out₀ 0 0 n
   underway-first run t n active running e a s =
       rw s (record {
         ahead = fs;
@@ -108,8 +107,8 @@ module _ (rules : Rules Contact) (untimed wet : Bool) (l : List ℕ) (fs : List 
       })
 
   -- at the end none is
-  pub underway-last : (m : Machine) (run : Run) (t : Table) (out : List ℕ) (pos at left : ℕ) → Underway rules untimed wet l m fs end out₀ run t out pos at left → left ≤ 0
-      → Ran rules (timedFrames untimed fs) wet (m .running) run (m .table) t out₀ out
+  pub underway-last : (m : Machine) (run : Run) (t : Arrays) (out : List ℕ) (pos at left : ℕ) → Underway rules untimed wet l m fs end out₀ run t out pos at left → left ≤ 0
+      → Ran rules (timedFrames untimed fs) wet (m .running) run (arraysIn m) t out₀ out
   underway-last m run t out pos at left u h =
       let e : u .ahead ≡ [] = none-left (u .ahead) (sym (series-end frameBy false left (drop at l) h) ∙ u .read) in
       let z : timedFrames untimed (u .ahead) ≡ [] = ap (timedFrames untimed) e ∙ timed-none untimed in
@@ -131,7 +130,7 @@ module _ (rules : Rules Contact) (untimed wet : Bool) (l : List ℕ) (fs : List 
       none-left more e = cc
 
   -- a frame's turn
-  module _ (m : Machine) (run : Run) (r : Stepped) (t v : Table) (out : List ℕ) (pos at left : ℕ) (u : Underway rules untimed wet l m fs end out₀ run t out pos at left) (h : 0 < left)
+  module _ (m : Machine) (run : Run) (r : Stepped) (t v : Arrays) (out : List ℕ) (pos at left : ℕ) (u : Underway rules untimed wet l m fs end out₀ run t out pos at left) (h : 0 < left)
       (found : FoundHead) (here : FindsHead (take (length l - at) (drop at l)) found) (head : Head) (eh : head ≡ timedHead untimed (found .head)) (part : List ℕ)
       (s : Steps head (take (length l - (at + found .contacts)) (drop (at + found .contacts) l)) wet rules run r t v (midOf pos (length out - pos) out) part) where
     abbrev out′ : List ℕ

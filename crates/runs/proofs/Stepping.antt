@@ -1,8 +1,8 @@
 -- What becomes of one frame, by its ruling.
 -- Assumes nothing.
 use Prim.Native.Nat.{ℕ, _+_, _<_}
-use mathlib.Core.Path.{_≡_, refl, sym, ap, _∙_}
-use mathlib.Core.Bool.{Bool, true, false}
+use mathlib.Core.Path.{_≡_, refl, sym, ap, subst, _∙_}
+use mathlib.Core.Bool.{Bool, true, false, cond}
 use mathlib.Core.List.{List, []}
 use native.Mathlib.Omega.{arith}
 use native.Mathlib.Nat.{add-zero}
@@ -10,7 +10,7 @@ use lib.ListN.{length}
 use Rattle.slices.specs.Writing.{laid, bytes, Writes}
 use Rattle.slices.specs.declared.Written.{Written}
 use Rattle.slices.proofs.Laws.{writes-done}
-use Rattle.formats.specs.Format.{got}
+use Rattle.formats.specs.Format.{Got, got, bad}
 use Rattle.fields.specs.Integers.{taken}
 use Rattle.house.specs.declared.Head.{Head}
 use Rattle.house.specs.declared.Contact.{Contact}
@@ -19,21 +19,23 @@ use Rattle.house.proofs.Round.{length-contact}
 use Rattle.framing.specs.Frame.{Frame, headOf}
 use Rattle.touch.specs.Touch.{contact}
 use Rattle.frame_records.proofs.Laws.{frame-is, length-frame}
-use Rattle.machine.specs.Table.{Table, contacts}
 use Rattle.machine.specs.Rules.{Rules}
-use Rattle.machine.specs.Machine.{Machine, Counts, plus, countOf, Verdict, injected, ignored, cancelled, verdict}
+use Rattle.machine.specs.Table.{Table}
+use Rattle.machine.specs.Held.{activeIds}
+use Rattle.machine.specs.Machine.{Machine, Arrays, isJudged, verdictBy, Counts, plus, countOf, Verdict, injected, ignored, cancelled, verdict}
 use Rattle.contacts.specs.Touch.{touchView, touchRules}
-use Rattle.contacts.specs.Ruling.{contactsOf, ofRead, rulingOf, unread, Counted}
+use Rattle.contacts.specs.Ruling.{contactsOf, tableFrom, rulingOf, unread, Counted, Decides}
 use Rattle.contacts.specs.declared.Ruling.{Ruling}
 use Rattle.contacts.specs.declared.Ruling.the-variants as Ruling
 use Rattle.machine.proofs.Conforms.{after-long}
 use Rattle.machine.proofs.Machine.{injected-machine, injected-bytes, ignored-machine, ignored-bytes, cancelled-machine, cancelled-bytes, cancels-length}
 use Rattle.contacts.proofs.Judgement.{ruled-injected, ruled-ignored, ruled-cancelled, counted-resting}
-use Rattle.moves.specs.Moves.{Ends}
 use Rattle.moves.proofs.Moving.{applies-after}
+use Rattle.openings.specs.Openings.{judgedAmong, Lists}
+use Rattle.openings.proofs.Listed.{listed-after}
 use Rattle.runs.specs.declared.Run.{Run}
 use Rattle.runs.specs.declared.Stepped.{Stepped}
-use Rattle.runs.specs.Runs.{Lays, machineIn, ignoredRun, Injects, Cancels, Turned, Steps}
+use Rattle.runs.specs.Runs.{Lays, machineIn, RulesOn, Injects, Ignores, Cancels, Turned, Steps}
 
 -- ---- what is laid
 
@@ -59,92 +61,126 @@ lays-none wet d = record { kept = λ n. refl; written = λ y room. refl }
 counted-as : (rules : Rules Contact) (m : Machine) (cs : List Contact) (a b : Counts) (v : Verdict) → verdict touchView rules m cs ≡ v → b ≡ plus a (countOf v) → b ≡ plus a (countOf (verdict touchView rules m cs))
 counted-as rules m cs a b v e h = rw e h
 
+-- ---- a frame is judged as the machine judges it
+
+pub ruled-on : (rules : Rules Contact) (m : Machine) (active : ℕ) (x : Got (List Contact)) (judged : Bool) (r : Ruling)
+    → judged ≡ judgedAmong (m .running) (m .held) x → Decides judged rules (m .table) active x r → RulesOn rules m active x r
+ruled-on rules m active (got cs t) judged r e d n = d n ∙ ap (λ (b : Bool). rulingOf b rules (m .table) cs) e
+ruled-on rules m active (bad x) judged r e d n = d n ∙ ap unread (e ∙ as-running (m .running))
+  where
+    as-running : (b : Bool) → cond b true false ≡ b
+    as-running true = refl
+    as-running false = refl
+
+-- a frame's contacts, listed beside those who were active
+pub lists-active : (n : ℕ) (l : List ℕ) (end : ℕ) (t : Table) (marks after : List ℕ) → marks ≡ activeIds (tableFrom (t .states) [] []) → Lists n l end marks after
+    → Lists n l end (activeIds t) after
+unfolding activeIds
+lists-active n l end t marks after e h = subst (λ (k : List ℕ). Lists n l end k after) e h
+
 -- ---- the three rulings
 
-module _ (head : Head) (l : List ℕ) (wet : Bool) (most : ℕ) (run : Run) (t : Table) (before : List ℕ) where
+module _ (head : Head) (l : List ℕ) (wet : Bool) (most : ℕ) (run : Run) (a : Arrays) (before : List ℕ) where
   abbrev ruled : Ruling → Type 0
-  ruled r = Counted (run .active) (t .states) → r ≡ ofRead (unread (run .running)) (rulingOf (touchRules most) (machineIn run t)) (contactsOf (head .count) l)
+  ruled r = RulesOn (touchRules most) (machineIn run a) (run .active) (contactsOf (head .count) l) r
 
-  module _ (f : Frame Contact) (rest : List ℕ) (h : head ≡ headOf f) (e : contactsOf (head .count) l ≡ got (f .contacts) rest) (a : Counted (run .active) (t .states)) where
-    read-as : (r : Ruling) → ruled r → r ≡ rulingOf (touchRules most) (machineIn run t) (f .contacts)
-    read-as r q = rw e at (q a)
+  abbrev judgedOn : List Contact → Bool
+  judgedOn cs = isJudged touchView (machineIn run a) cs
 
-    turned-injected : (k : ℕ) (r : Stepped) (u : Table) (after : List ℕ) → ruled (Ruling.Injected k) → Injects head k l wet run r t u before after
-        → Turned (touchRules most) f wet run (r .run) t u before after
-    turned-injected k r u after q i =
-        let v = ruled-injected (touchRules most) (machineIn run t) (f .contacts) k (read-as (Ruling.Injected k) q) in
-        let x = applies-after (contact taken) (head .count) l (r .end) t u (f .contacts) rest (i .carried .table) e in
-        let n : head .count ≡ length (f .contacts) = ap (λ (g : Head). g .count) h in
-        let b = injected-bytes touchView (touchRules most) (machineIn run t) f (v .verdict) in
+  module _ (f : Frame Contact) (rest : List ℕ) (h : head ≡ headOf f) (e : contactsOf (head .count) l ≡ got (f .contacts) rest) (n : Counted (run .active) (a .table .states)) where
+    read-as : (r : Ruling) → ruled r → r ≡ rulingOf (judgedOn (f .contacts)) (touchRules most) (a .table) (f .contacts)
+    read-as r q = rw e at (q n)
+
+    -- the verdict that a ruling tells
+    verdict-is : verdict touchView (touchRules most) (machineIn run a) (f .contacts) ≡ verdictBy touchView (judgedOn (f .contacts)) (touchRules most) (a .table) (f .contacts)
+    unfolding verdict
+    verdict-is = refl
+
+    turned-injected : (k : ℕ) (r : Stepped) (b : Arrays) (after : List ℕ) → ruled (Ruling.Injected k) → Injects head k l wet run r a b before after
+        → Turned (touchRules most) f wet run (r .run) a b before after
+    turned-injected k r b after q i =
+        let m = machineIn run a in
+        let v = ruled-injected (judgedOn (f .contacts)) (touchRules most) (a .table) (f .contacts) k (read-as (Ruling.Injected k) q) in
+        let o = verdict-is ∙ v .verdict in
+        let x = applies-after (contact taken) (head .count) l (r .end) (a .table) (b .table) (f .contacts) rest (i .carried .table) e in
+        let c : head .count ≡ length (f .contacts) = ap (λ (g : Head). g .count) h in
+        let s = injected-bytes touchView (touchRules most) m f o in
         rw (i .answer) (record {
-          machine = rw x (sym (injected-machine touchView (touchRules most) (machineIn run t) f (v .verdict)));
-          active = rw x (record { all = after-long touchView (touchRules most .next) t (f .contacts) ∙ a .all; same = v .active });
-          counts = counted-as (touchRules most) (machineIn run t) (f .contacts) _ _ injected (v .verdict) (λ j. record { injected = run .injected + 1; ignored = sym (add-zero (run .ignored)) j; cancelled = sym (add-zero (run .cancelled)) j });
-          records = rw (b, length-frame f) (omega arith);
-          output = rw (b, frame-is f, ← h) (i .carried .output (f .contacts) rest e);
+          machine = rw (x, i .held) (sym (injected-machine touchView (touchRules most) m f o));
+          active = rw x (record { all = after-long touchView (touchRules most .next) (a .table) (f .contacts) ∙ n .all; same = v .active });
+          counts = counted-as (touchRules most) m (f .contacts) _ _ injected o (λ j. record { injected = run .injected + 1; ignored = sym (add-zero (run .ignored)) j; cancelled = sym (add-zero (run .cancelled)) j });
+          records = rw (s, length-frame f) (omega arith);
+          output = rw (s, frame-is f, ← h) (i .carried .output (f .contacts) rest e);
         })
 
-    turned-ignored : (r : Run) → ruled Ruling.Ignored → r ≡ ignoredRun run → Turned (touchRules most) f wet run r t t before before
-    turned-ignored r q i =
-        let v = ruled-ignored (touchRules most) (machineIn run t) (f .contacts) (read-as Ruling.Ignored q) in
-        let b = ignored-bytes touchView (touchRules most) (machineIn run t) f v in
-        rw i (record {
-          machine = sym (ignored-machine touchView (touchRules most) (machineIn run t) f v);
-          active = a;
-          counts = counted-as (touchRules most) (machineIn run t) (f .contacts) _ _ ignored v (λ j. record { injected = sym (add-zero (run .injected)) j; ignored = run .ignored + 1; cancelled = sym (add-zero (run .cancelled)) j });
-          records = rw b (omega arith);
-          output = rw b (lays-none wet before);
+    turned-ignored : (r : Stepped) (held : List ℕ) → ruled Ruling.Ignored → Ignores (head .count) l run r (a .held) held
+        → Turned (touchRules most) f wet run (r .run) a (record { table = a .table; held = held }) before before
+    turned-ignored r held q i =
+        let m = machineIn run a in
+        let o = verdict-is ∙ ruled-ignored (judgedOn (f .contacts)) (touchRules most) (a .table) (f .contacts) (read-as Ruling.Ignored q) in
+        let x = listed-after (head .count) l (r .end) (a .held) held (f .contacts) rest (i .held) e in
+        let s = ignored-bytes touchView (touchRules most) m f o in
+        rw (i .answer) (record {
+          machine = rw x (sym (ignored-machine touchView (touchRules most) m f o));
+          active = n;
+          counts = counted-as (touchRules most) m (f .contacts) _ _ ignored o (λ j. record { injected = sym (add-zero (run .injected)) j; ignored = run .ignored + 1; cancelled = sym (add-zero (run .cancelled)) j });
+          records = rw s (omega arith);
+          output = rw s (lays-none wet before);
         })
 
-    turned-cancelled : (r : Run) (u : Table) (after : List ℕ) → ruled Ruling.Cancelled → Cancels wet run r t u before after → Turned (touchRules most) f wet run r t u before after
-    turned-cancelled r u after q i =
-        let v = ruled-cancelled (touchRules most) (machineIn run t) (f .contacts) (read-as Ruling.Cancelled q) in
-        let b = cancelled-bytes touchView (touchRules most) (machineIn run t) f v in
-        let n = cancels-length touchView t length-contact (a .all) in
-        let z = a .same in
+    turned-cancelled : (r : Stepped) (b : Arrays) (after : List ℕ) → ruled Ruling.Cancelled → Cancels (head .count) l wet run r a b before after
+        → Turned (touchRules most) f wet run (r .run) a b before after
+    turned-cancelled r b after q i =
+        let m = machineIn run a in
+        let o = verdict-is ∙ ruled-cancelled (judgedOn (f .contacts)) (touchRules most) (a .table) (f .contacts) (read-as Ruling.Cancelled q) in
+        let x = listed-after (head .count) l (r .end) (activeIds (a .table)) (b .held) (f .contacts) rest (i .held) e in
+        let s = cancelled-bytes touchView (touchRules most) m f o in
+        let c = cancels-length touchView (a .table) length-contact (n .all) in
+        let z = n .same in
         rw (i .answer) (record {
-          machine = rw (i .table) (sym (cancelled-machine touchView (touchRules most) (machineIn run t) f v));
+          machine = rw (i .table, x) (sym (cancelled-machine touchView (touchRules most) m f o));
           active = rw (i .table) counted-resting;
-          counts = counted-as (touchRules most) (machineIn run t) (f .contacts) _ _ cancelled v (λ j. record { injected = sym (add-zero (run .injected)) j; ignored = sym (add-zero (run .ignored)) j; cancelled = run .cancelled + 1 });
-          records = rw (b, n) (omega arith);
-          output = rw b (i .output);
+          counts = counted-as (touchRules most) m (f .contacts) _ _ cancelled o (λ j. record { injected = sym (add-zero (run .injected)) j; ignored = sym (add-zero (run .ignored)) j; cancelled = run .cancelled + 1 });
+          records = rw (s, c) (omega arith);
+          output = rw s (i .output);
         })
 
   -- ---- the contract, of each
 
-  pub steps-injected : (k : ℕ) (r : Stepped) (u : Table) (after : List ℕ) → ruled (Ruling.Injected k) → Injects head k l wet run r t u before after
-      → Steps head l wet (touchRules most) run r t u before after
-  steps-injected k r u after q i =
+  pub steps-injected : (k : ℕ) (r : Stepped) (b : Arrays) (after : List ℕ) → ruled (Ruling.Injected k) → Injects head k l wet run r a b before after
+      → Steps head l wet (touchRules most) run r a b before after
+  steps-injected k r b after q i =
       let x = i .answer in
-      let n = i .small in
+      let c = i .small in
       record {
         frames = rw x (omega arith);
         more = rw x (omega arith);
         small = rw x (omega arith);
         passed = i .carried .table .passed;
-        turned = λ f rest h e a. turned-injected f rest h e a k r u after q i;
+        turned = λ f rest h e n. turned-injected f rest h e n k r b after q i;
       }
 
-  pub steps-ignored : (r : Run) (end : ℕ) → ruled Ruling.Ignored → r ≡ ignoredRun run → Ends (contact taken) (head .count) l end
-      → Steps head l wet (touchRules most) run (record { run = r; end = end }) t t before before
-  steps-ignored r end q i p =
-      record {
-        frames = rw i (omega arith);
-        more = rw i (omega arith);
-        small = rw i (omega arith);
-        passed = p;
-        turned = λ f rest h e a. turned-ignored f rest h e a r q i;
-      }
-
-  pub steps-cancelled : (r : Run) (end : ℕ) (u : Table) (after : List ℕ) → ruled Ruling.Cancelled → Cancels wet run r t u before after → Ends (contact taken) (head .count) l end
-      → Steps head l wet (touchRules most) run (record { run = r; end = end }) t u before after
-  steps-cancelled r end u after q i p =
+  pub steps-ignored : (r : Stepped) (held : List ℕ) → ruled Ruling.Ignored → Ignores (head .count) l run r (a .held) held
+      → Steps head l wet (touchRules most) run r a (record { table = a .table; held = held }) before before
+  steps-ignored r held q i =
       let x = i .answer in
-      let n = i .small in
       record {
         frames = rw x (omega arith);
         more = rw x (omega arith);
         small = rw x (omega arith);
-        passed = p;
-        turned = λ f rest h e a. turned-cancelled f rest h e a r u after q i;
+        passed = i .held .passed;
+        turned = λ f rest h e n. turned-ignored f rest h e n r held q i;
+      }
+
+  pub steps-cancelled : (r : Stepped) (b : Arrays) (after : List ℕ) → ruled Ruling.Cancelled → Cancels (head .count) l wet run r a b before after
+      → Steps head l wet (touchRules most) run r a b before after
+  steps-cancelled r b after q i =
+      let x = i .answer in
+      let c = i .small in
+      record {
+        frames = rw x (omega arith);
+        more = rw x (omega arith);
+        small = rw x (omega arith);
+        passed = i .held .passed;
+        turned = λ f rest h e n. turned-cancelled f rest h e n r b after q i;
       }

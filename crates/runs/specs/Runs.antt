@@ -5,7 +5,7 @@ use mathlib.Core.Bool.{Bool, true, false, cond}
 use mathlib.Core.List.{List, _++_}
 use lib.ListN.{length}
 use Rattle.slices.specs.Writing.{laid}
-use Rattle.formats.specs.Format.{got, readSeries}
+use Rattle.formats.specs.Format.{Got, got, readSeries}
 use Rattle.fields.specs.Integers.{taken}
 use Rattle.house.specs.Layout.{headBytes}
 use Rattle.house.specs.Fields.{recordBytes}
@@ -15,10 +15,13 @@ use Rattle.framing.specs.Frame.{Frame, headOf, timedFrames, contactsBytes}
 use Rattle.touch.specs.Touch.{contact, frame, touchRecord}
 use Rattle.machine.specs.Table.{Table, resting}
 use Rattle.machine.specs.Rules.{Rules}
-use Rattle.machine.specs.Machine.{Machine, Counts, plus, countOf, verdict, cancels, stepMachine, stepBytes, runMachine, runBytes, runCounts}
+use Rattle.machine.specs.Held.{nobody, activeIds}
+use Rattle.machine.specs.Machine.{Machine, Arrays, inMode, isJudged, Counts, plus, countOf, verdict, cancels, stepMachine, stepBytes, runMachine, runBytes, runCounts}
 use Rattle.contacts.specs.Touch.{touchView}
-use Rattle.contacts.specs.Ruling.{contactsOf, Counted}
+use Rattle.contacts.specs.Ruling.{contactsOf, ofRead, rulingOf, unread, Counted}
+use Rattle.contacts.specs.declared.Ruling.{Ruling}
 use Rattle.moves.specs.Moves.{Ends, Applies}
+use Rattle.openings.specs.Openings.{Lists}
 use Rattle.runs.specs.declared.Run.{Run}
 use Rattle.runs.specs.declared.Stepped.{Stepped}
 
@@ -48,8 +51,8 @@ pub record CarriesFrame (wet : Bool) (head : Head) (l : List ℕ) (end : ℕ) (t
 
 -- ---- a run so far
 
-abbrev pub machineIn : Run → Table → Machine
-machineIn r t = record { table = t; running = r .running }
+abbrev pub machineIn : Run → Arrays → Machine
+machineIn r a = inMode (r .running) a
 
 abbrev pub countsOf : Run → Counts
 countsOf r = record { injected = r .injected; ignored = r .ignored; cancelled = r .cancelled }
@@ -76,33 +79,44 @@ cancelledRun r =
 
 -- ---- one frame
 
-pub record Injects (head : Head) (active : ℕ) (l : List ℕ) (wet : Bool) (run : Run) (r : Stepped) (t u : Table) (before after : List ℕ) : Type 0 where
+-- what becomes of it, of contacts that are read as x; the number of active contacts is to be the table's
+abbrev pub RulesOn : Rules Contact → Machine → ℕ → Got (List Contact) → Ruling → Type 0
+RulesOn rules m active x r =
+    Counted active (m .table .states) → r ≡ ofRead (unread (m .running)) (λ cs. rulingOf (isJudged touchView m cs) rules (m .table) cs) x
+
+pub record Injects (head : Head) (active : ℕ) (l : List ℕ) (wet : Bool) (run : Run) (r : Stepped) (a b : Arrays) (before after : List ℕ) : Type 0 where
   pub answer : r .run ≡ injectedRun run (head .count) active
   pub small : head .count < 65536
-  pub carried : CarriesFrame wet head l (r .end) t u before after
+  pub carried : CarriesFrame wet head l (r .end) (a .table) (b .table) before after
+  pub held : b .held ≡ cond (run .running) (a .held) nobody
 
-pub record Cancels (wet : Bool) (run r : Run) (t u : Table) (before after : List ℕ) : Type 0 where
-  pub answer : r ≡ cancelledRun run
+pub record Ignores (n : ℕ) (l : List ℕ) (run : Run) (r : Stepped) (before after : List ℕ) : Type 0 where
+  pub answer : r .run ≡ ignoredRun run
+  pub held : Lists n l (r .end) before after
+
+pub record Cancels (n : ℕ) (l : List ℕ) (wet : Bool) (run : Run) (r : Stepped) (a b : Arrays) (before after : List ℕ) : Type 0 where
+  pub answer : r .run ≡ cancelledRun run
   pub small : run .active < 65536
-  pub table : u ≡ resting
-  pub output : Lays wet (cancels touchView t) before after
+  pub table : b .table ≡ resting
+  pub held : Lists n l (r .end) (activeIds (a .table)) (b .held)
+  pub output : Lays wet (cancels touchView (a .table)) before after
 
--- a frame f, after which the table is u
-pub record Turned (rules : Rules Contact) (f : Frame Contact) (wet : Bool) (run r : Run) (t u : Table) (before after : List ℕ) : Type 0 where
-  pub machine : machineIn r u ≡ stepMachine touchView rules (machineIn run t) f
-  pub active : Counted (r .active) (u .states)
-  pub counts : countsOf r ≡ plus (countsOf run) (countOf (verdict touchView rules (machineIn run t) (f .contacts)))
-  pub records : recordBytes * r .records ≡ recordBytes * run .records + length (stepBytes touchView rules (machineIn run t) f)
-  pub output : Lays wet (stepBytes touchView rules (machineIn run t) f) before after
+-- a frame f, after which the arrays are b
+pub record Turned (rules : Rules Contact) (f : Frame Contact) (wet : Bool) (run r : Run) (a b : Arrays) (before after : List ℕ) : Type 0 where
+  pub machine : machineIn r b ≡ stepMachine touchView rules (machineIn run a) f
+  pub active : Counted (r .active) (b .table .states)
+  pub counts : countsOf r ≡ plus (countsOf run) (countOf (verdict touchView rules (machineIn run a) (f .contacts)))
+  pub records : recordBytes * r .records ≡ recordBytes * run .records + length (stepBytes touchView rules (machineIn run a) f)
+  pub output : Lays wet (stepBytes touchView rules (machineIn run a) f) before after
 
 -- the frame of a head whose contacts are at the front of l; the bounds hold whatever is read
-pub record Steps (head : Head) (l : List ℕ) (wet : Bool) (rules : Rules Contact) (run : Run) (r : Stepped) (t u : Table) (before after : List ℕ) : Type 0 where
+pub record Steps (head : Head) (l : List ℕ) (wet : Bool) (rules : Rules Contact) (run : Run) (r : Stepped) (a b : Arrays) (before after : List ℕ) : Type 0 where
   pub frames : framesPassed (r .run) ≤ framesPassed run + 1
   pub more : run .records ≤ r .run .records
   pub small : r .run .records ≤ run .records + 65536
   pub passed : Ends (contact taken) (head .count) l (r .end)
-  pub turned : (f : Frame Contact) (rest : List ℕ) → head ≡ headOf f → contactsOf (head .count) l ≡ got (f .contacts) rest → Counted (run .active) (t .states)
-      → Turned rules f wet run (r .run) t u before after
+  pub turned : (f : Frame Contact) (rest : List ℕ) → head ≡ headOf f → contactsOf (head .count) l ≡ got (f .contacts) rest → Counted (run .active) (a .table .states)
+      → Turned rules f wet run (r .run) a b before after
 
 -- ---- the frames of a message
 
@@ -111,13 +125,13 @@ pub record Passes (pos records room r : ℕ) : Type 0 where
   pub inside : r ≤ room
   pub behind : pos + recordBytes * records ≤ room → r ≡ pos + recordBytes * records
 
--- the frames fs, from a mode and a table t on
-pub record Ran (rules : Rules Contact) (fs : List (Frame Contact)) (wet running : Bool) (r : Run) (t u : Table) (before after : List ℕ) : Type 0 where
-  pub machine : machineIn r u ≡ runMachine touchView rules (record { table = t; running = running }) fs
-  pub active : Counted (r .active) (u .states)
-  pub counts : countsOf r ≡ runCounts touchView rules (record { table = t; running = running }) fs
-  pub records : recordBytes * r .records ≡ length (runBytes touchView rules (record { table = t; running = running }) fs)
-  pub output : Lays wet (runBytes touchView rules (record { table = t; running = running }) fs) before after
+-- the frames fs, from a mode and the arrays a on
+pub record Ran (rules : Rules Contact) (fs : List (Frame Contact)) (wet running : Bool) (r : Run) (a b : Arrays) (before after : List ℕ) : Type 0 where
+  pub machine : machineIn r b ≡ runMachine touchView rules (inMode running a) fs
+  pub active : Counted (r .active) (b .table .states)
+  pub counts : countsOf r ≡ runCounts touchView rules (inMode running a) fs
+  pub records : recordBytes * r .records ≡ length (runBytes touchView rules (inMode running a) fs)
+  pub output : Lays wet (runBytes touchView rules (inMode running a) fs) before after
 
 -- no more records than these, whatever is read: of 255 frames at most, each gives at most 65536
 abbrev pub mostRecords : ℕ
@@ -125,7 +139,7 @@ mostRecords = 16711680
 
 -- THE CONTRACT OF A RUN over the n frames at the front of l, where they can be read and the number of active contacts is the table's. Of others
 -- only the bound is said.
-pub record Runs (n : ℕ) (l : List ℕ) (untimed wet running : Bool) (rules : Rules Contact) (active : ℕ) (r : Run) (t u : Table) (before after : List ℕ) : Type 0 where
+pub record Runs (n : ℕ) (l : List ℕ) (untimed wet running : Bool) (rules : Rules Contact) (active : ℕ) (r : Run) (a b : Arrays) (before after : List ℕ) : Type 0 where
   pub small : r .records ≤ mostRecords
-  pub ran : (fs : List (Frame Contact)) (rest : List ℕ) → readSeries (λ b. frame taken b .read) false n l ≡ got fs rest → Counted active (t .states)
-      → Ran rules (timedFrames untimed fs) wet running r t u before after
+  pub ran : (fs : List (Frame Contact)) (rest : List ℕ) → readSeries (λ b. frame taken b .read) false n l ≡ got fs rest → Counted active (a .table .states)
+      → Ran rules (timedFrames untimed fs) wet running r a b before after

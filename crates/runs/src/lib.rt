@@ -7,10 +7,10 @@ use paper::Microseconds;
 ghost use Prim.Native.Nat.{_+_, _*_, _≤_};
 ghost use mathlib.Core.Path.{_≡_};
 ghost use Rattle.contacts.specs.Touch.{touchRules};
-ghost use Rattle.contacts.specs.Ruling.{tableFrom};
+ghost use Rattle.contacts.specs.Ruling.{arraysFrom};
 ghost use Rattle.runs.specs.Runs.{timedHead, started, Passes, Runs};
 
-// What a run over frames has come to, beside the table: the mode, how many contacts are active, what became of the frames, and
+// What a run over frames has come to, beside the table and the set: the mode, how many contacts are active, what became of the frames, and
 // how many records they give.
 pub struct Run {
     pub running: bool,
@@ -79,8 +79,9 @@ pub fn run_frames(
     states: &mut [u8; 256],
     xs: &mut [i32; 256],
     ys: &mut [i32; 256],
+    held: &mut [u8; 256],
 ) -> Run
-    ensures { λ r. ⌜ Runs n (now (frames .entry)) untimed wet running (touchRules most) active r (tableFrom (now (states .entry)) (now (xs .entry)) (now (ys .entry))) (tableFrom (now (states .exit)) (now (xs .exit)) (now (ys .exit))) (now (out .entry)) (now (out .exit)) ⌝ }
+    ensures { λ r. ⌜ Runs n (now (frames .entry)) untimed wet running (touchRules most) active r (arraysFrom (now (states .entry)) (now (xs .entry)) (now (ys .entry)) (now (held .entry))) (arraysFrom (now (states .exit)) (now (xs .exit)) (now (ys .exit)) (now (held .exit))) (now (out .entry)) (now (out .exit)) ⌝ }
 {
     let mut run = start(running, active);
     let mut pos: usize = 0;
@@ -92,7 +93,18 @@ pub fn run_frames(
         at += found.contacts;
         let before = run.records;
         let rest = &frames[at..];
-        let next = step::step(&mut out[pos..], wet, rest, head, most, run, states, xs, ys);
+        let next = step::step(
+            &mut out[pos..],
+            wet,
+            rest,
+            head,
+            most,
+            run,
+            states,
+            xs,
+            ys,
+            held,
+        );
         run = next.run;
         pos = pass(pos, run.records - before, out.len());
         at += next.end;

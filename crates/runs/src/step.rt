@@ -4,16 +4,23 @@ use crate::Stepped;
 use crate::carry::carry;
 use contacts::Ruling;
 use house::Head;
-use touch::End;
 ghost use Prim.Native.Nat.{_+_, _≤_, _<_};
 ghost use mathlib.Core.Path.{_≡_};
+ghost use mathlib.Core.Bool.{cond};
+ghost use Rattle.machine.specs.Held.{nobody};
 ghost use Rattle.machine.specs.Machine.{cancels};
 ghost use Rattle.contacts.specs.Touch.{touchView, touchRules};
-ghost use Rattle.contacts.specs.Ruling.{contactsOf, tableFrom, Decides};
-ghost use Rattle.fields.specs.Integers.{taken};
-ghost use Rattle.touch.specs.Touch.{contact};
-ghost use Rattle.moves.specs.Moves.{Ends};
-ghost use Rattle.runs.specs.Runs.{machineIn, ignoredRun, framesPassed, Lays, Injects, Cancels, Steps};
+ghost use Rattle.contacts.specs.Ruling.{contactsOf, tableFrom, arraysFrom};
+ghost use Rattle.runs.specs.Runs.{machineIn, framesPassed, Lays, RulesOn, Injects, Ignores, Cancels, Steps};
+
+// The set is emptied when a frame opens; while running it is not looked at.
+fn empty(running: bool, held: &mut [u8; 256])
+    ensures { λ _. ⌜ now (held .exit) ≡ cond running (now (held .entry)) nobody ⌝ }
+{
+    if !running {
+        *held = [0; 256];
+    }
+}
 
 // A conforming frame: its records, where they are to be written, and its contacts in the table.
 fn inject(
@@ -26,10 +33,12 @@ fn inject(
     states: &mut [u8; 256],
     xs: &mut [i32; 256],
     ys: &mut [i32; 256],
+    held: &mut [u8; 256],
 ) -> Stepped
     requires { ⌜ (framesPassed run < 255) × (run .records ≤ 4294967296) ⌝ }
-    ensures { λ r. ⌜ Injects head active (now (rest .entry)) wet run r (tableFrom (now (states .entry)) (now (xs .entry)) (now (ys .entry))) (tableFrom (now (states .exit)) (now (xs .exit)) (now (ys .exit))) (now (out .entry)) (now (out .exit)) ⌝ }
+    ensures { λ r. ⌜ Injects head active (now (rest .entry)) wet run r (arraysFrom (now (states .entry)) (now (xs .entry)) (now (ys .entry)) (now (held .entry))) (arraysFrom (now (states .exit)) (now (xs .exit)) (now (ys .exit)) (now (held .exit))) (now (out .entry)) (now (out .exit)) ⌝ }
 {
+    empty(run.running, held);
     let count = head.count as usize;
     let end = carry(out, wet, head, rest, states, xs, ys);
     let next = Run {
@@ -55,52 +64,55 @@ fn write_cancelled(out: &mut [u8], wet: bool, states: &[u8; 256], xs: &[i32; 256
     }
 }
 
-// A frame that does not conform: a cancel for each active contact, and all go out of range.
+// A frame that does not conform: a cancel for each active contact, and all go out of range. The set is of those, and of the frame's.
 fn cancel(
     out: &mut [u8],
     wet: bool,
+    rest: &[u8],
+    n: usize,
     run: Run,
     states: &mut [u8; 256],
     xs: &mut [i32; 256],
     ys: &mut [i32; 256],
-) -> Run
+    held: &mut [u8; 256],
+) -> Stepped
     requires { ⌜ (framesPassed run < 255) × (run .records ≤ 4294967296) ⌝ }
-    ensures { λ r. ⌜ Cancels wet run r (tableFrom (now (states .entry)) (now (xs .entry)) (now (ys .entry))) (tableFrom (now (states .exit)) (now (xs .exit)) (now (ys .exit))) (now (out .entry)) (now (out .exit)) ⌝ }
+    ensures { λ r. ⌜ Cancels n (now (rest .entry)) wet run r (arraysFrom (now (states .entry)) (now (xs .entry)) (now (ys .entry)) (now (held .entry))) (arraysFrom (now (states .exit)) (now (xs .exit)) (now (ys .exit)) (now (held .exit))) (now (out .entry)) (now (out .exit)) ⌝ }
 {
     write_cancelled(out, wet, states, xs, ys);
+    openings::mark_active(states, held);
     moves::rest_all(states, xs, ys);
-    Run {
+    let next = Run {
         running: false,
         active: 0,
         injected: run.injected,
         ignored: run.ignored,
         cancelled: run.cancelled + 1,
         records: run.records + run.active as usize,
+    };
+    let end = openings::list_contacts(rest, n, held);
+    Stepped {
+        run: next,
+        end: end,
     }
 }
 
-// Any other frame while ignoring: nothing happens.
-fn ignore(run: Run) -> Run
+// Any other frame while ignoring: nothing happens, but to the set.
+fn ignore(rest: &[u8], n: usize, run: Run, held: &mut [u8; 256]) -> Stepped
     requires { ⌜ framesPassed run < 255 ⌝ }
-    ensures { λ r. ⌜ r ≡ ignoredRun run ⌝ }
+    ensures { λ r. ⌜ Ignores n (now (rest .entry)) run r (now (held .entry)) (now (held .exit)) ⌝ }
 {
-    Run {
+    let next = Run {
         running: run.running,
         active: run.active,
         injected: run.injected,
         ignored: run.ignored + 1,
         cancelled: run.cancelled,
         records: run.records,
-    }
-}
-
-// Where n contacts end that are not looked at, 0 where they cannot be read.
-fn skip(rest: &[u8], n: usize) -> usize
-    ensures { λ r. ⌜ Ends (contact taken) n (now (rest .entry)) r ⌝ }
-{
-    match touch::skip_contacts(rest, n, false) {
-        End::At(end) => end,
-        End::Refused(_) => 0,
+    };
+    Stepped {
+        run: next,
+        end: openings::list_contacts(rest, n, held),
     }
 }
 
@@ -113,10 +125,12 @@ fn ruling_on(
     states: &[u8; 256],
     xs: &[i32; 256],
     ys: &[i32; 256],
+    held: &[u8; 256],
 ) -> Ruling
-    ensures { λ r. ⌜ Decides (touchRules most) (machineIn run (tableFrom (now (states .entry)) (now (xs .entry)) (now (ys .entry)))) (run .active) (contactsOf n (now (rest .entry))) r ⌝ }
+    ensures { λ r. ⌜ RulesOn (touchRules most) (machineIn run (arraysFrom (now (states .entry)) (now (xs .entry)) (now (ys .entry)) (now (held .entry)))) (run .active) (contactsOf n (now (rest .entry))) r ⌝ }
 {
-    contacts::verdict_of(run.running, rest, n, states, xs, ys, most, run.active)
+    let judged = openings::is_judged(run.running, rest, n, held);
+    contacts::verdict_of(judged, rest, n, states, xs, ys, most, run.active)
 }
 
 // What becomes of a frame whose contacts are at the front of rest.
@@ -130,20 +144,18 @@ pub(crate) fn step(
     states: &mut [u8; 256],
     xs: &mut [i32; 256],
     ys: &mut [i32; 256],
+    held: &mut [u8; 256],
 ) -> Stepped
     requires { ⌜ (framesPassed run < 255) × (run .records ≤ 4294967296) ⌝ }
-    ensures { λ r. ⌜ Steps head (now (rest .entry)) wet (touchRules most) run r (tableFrom (now (states .entry)) (now (xs .entry)) (now (ys .entry))) (tableFrom (now (states .exit)) (now (xs .exit)) (now (ys .exit))) (now (out .entry)) (now (out .exit)) ⌝ }
+    ensures { λ r. ⌜ Steps head (now (rest .entry)) wet (touchRules most) run r (arraysFrom (now (states .entry)) (now (xs .entry)) (now (ys .entry)) (now (held .entry))) (arraysFrom (now (states .exit)) (now (xs .exit)) (now (ys .exit)) (now (held .exit))) (now (out .entry)) (now (out .exit)) ⌝ }
 {
-    let ruling = ruling_on(run, rest, head.count, most, states, xs, ys);
+    let n = head.count as usize;
+    let ruling = ruling_on(run, rest, head.count, most, states, xs, ys, held);
     match ruling {
-        Ruling::Injected(active) => inject(out, wet, rest, head, active, run, states, xs, ys),
-        Ruling::Ignored => Stepped {
-            run: ignore(run),
-            end: skip(rest, head.count as usize),
-        },
-        Ruling::Cancelled => Stepped {
-            run: cancel(out, wet, run, states, xs, ys),
-            end: skip(rest, head.count as usize),
-        },
+        Ruling::Injected(active) => {
+            inject(out, wet, rest, head, active, run, states, xs, ys, held)
+        }
+        Ruling::Ignored => ignore(rest, n, run, held),
+        Ruling::Cancelled => cancel(out, wet, rest, n, run, states, xs, ys, held),
     }
 }

@@ -15,11 +15,11 @@ use Rattle.recordings.proofs.Judged.{frame-shorter}
 use Rattle.machine.specs.Table.{Table}
 use Rattle.machine.specs.Rules.{Rules}
 use Rattle.machine.specs.Conforms.{conforms}
-use Rattle.machine.specs.Machine.{Machine, stepMachine, runMachine, allConform}
+use Rattle.machine.specs.Machine.{Machine, runningWith, stepMachine, runMachine, allConform}
 use Rattle.machine.proofs.Conforming.{conforms-machine}
 use Rattle.contacts.specs.Touch.{touchView}
 use Rattle.contacts.specs.Ruling.{Counted}
-use Rattle.sending.specs.Judging.{running, BeginsFrame, StepsOver, Steps}
+use Rattle.sending.specs.Judging.{BeginsFrame, StepsOver, Steps}
 use Rattle.sending.specs.declared.Step.{Step}
 use Rattle.sending.proofs.Recorded.{First, first, none-left}
 
@@ -54,8 +54,8 @@ module _ (rules : Rules Contact) where
       pub ahead : List (Frame Contact)
       pub read : framesIn (drop at l) ≡ got ahead end
       pub counted : Counted active (t .states)
-      pub conform : allConform touchView rules (running t) ahead ≡ allConform touchView rules (running t₀) fs
-      pub machine : runMachine touchView rules (running t) ahead ≡ runMachine touchView rules (running t₀) fs
+      pub conform : allConform touchView rules (runningWith t) ahead ≡ allConform touchView rules (runningWith t₀) fs
+      pub machine : runMachine touchView rules (runningWith t) ahead ≡ runMachine touchView rules (runningWith t₀) fs
 
     pub underway-first : (active : ℕ) → framesIn l ≡ got fs end → Counted active (t₀ .states) → Underway active 0 t₀
     underway-first active e k = record { ahead = fs; read = e; counted = k; conform = refl; machine = refl }
@@ -67,11 +67,11 @@ module _ (rules : Rules Contact) where
       pub under : Underway (r .active) (at + r .end) u
 
     module _ (active at : ℕ) (t : Table) (w : Underway active at t) where
-      pub underway-last : length l ≤ at → (true ≡ allConform touchView rules (running t₀) fs) × (running t ≡ runMachine touchView rules (running t₀) fs)
+      pub underway-last : length l ≤ at → (true ≡ allConform touchView rules (runningWith t₀) fs) × (runningWith t ≡ runMachine touchView rules (runningWith t₀) fs)
       underway-last h =
           let z = none-left l at (w .ahead) end h (w .read) in
-          let a : allConform touchView rules (running t) (w .ahead) ≡ true = rw z (none-conform (running t)) in
-          let b : runMachine touchView rules (running t) (w .ahead) ≡ running t = rw z (none-machine (running t)) in
+          let a : allConform touchView rules (runningWith t) (w .ahead) ≡ true = rw z (none-conform (runningWith t)) in
+          let b : runMachine touchView rules (runningWith t) (w .ahead) ≡ runningWith t = rw z (none-machine (runningWith t)) in
           (sym a ∙ w .conform, sym b ∙ w .machine)
 
       module _ (h : at < length l) where
@@ -85,18 +85,18 @@ module _ (rules : Rules Contact) where
           over : StepsOver rules (here .frame) (here .after) s r t u
           over = k (here .frame) (here .after) (rw es (here .read)) (w .counted)
 
-          pub stops : r .conforms ≡ false → false ≡ allConform touchView rules (running t₀) fs
+          pub stops : r .conforms ≡ false → false ≡ allConform touchView rules (runningWith t₀) fs
           stops z =
-              let a = ap (allConform touchView rules (running t)) (here .all) ∙ conform-not (running t) (here .frame) (here .others) (sym (over .judged) ∙ z) in
+              let a = ap (allConform touchView rules (runningWith t)) (here .all) ∙ conform-not (runningWith t) (here .frame) (here .others) (sym (over .judged) ∙ z) in
               sym a ∙ w .conform
 
           pub goes : r .conforms ≡ true → Turned at r u
           goes z =
               let d : drop (r .end) (drop at l) ≡ here .after = rw es at (over .ends z) in
               let c : conforms touchView rules t (here .frame .contacts) ≡ true = sym (over .judged) ∙ z in
-              let m : stepMachine touchView rules (running t) (here .frame) ≡ running u = conforms-machine touchView rules (running t) (here .frame) refl c ∙ ap running (sym (over .table z)) in
-              let a = ap (allConform touchView rules (running t)) (here .all) ∙ conform-on (running t) (here .frame) (here .others) c ∙ ap (λ (n : Machine). allConform touchView rules n (here .others)) m in
-              let b = ap (runMachine touchView rules (running t)) (here .all) ∙ machine-on (running t) (here .frame) (here .others) ∙ ap (λ (n : Machine). runMachine touchView rules n (here .others)) m in
+              let m : stepMachine touchView rules (runningWith t) (here .frame) ≡ runningWith u = conforms-machine touchView rules (runningWith t) (here .frame) refl c ∙ ap runningWith (sym (over .table z)) in
+              let a = ap (allConform touchView rules (runningWith t)) (here .all) ∙ conform-on (runningWith t) (here .frame) (here .others) c ∙ ap (λ (n : Machine). allConform touchView rules n (here .others)) m in
+              let b = ap (runMachine touchView rules (runningWith t)) (here .all) ∙ machine-on (runningWith t) (here .frame) (here .others) ∙ ap (λ (n : Machine). runMachine touchView rules n (here .others)) m in
               let i : r .end ≤ length (drop at l) = rw es at (over .inside) in
               record {
                 onward = omega (arith, frame-shorter (drop at l) (here .frame) (here .after) (here .read), ap length d, length-drop (r .end) (drop at l));

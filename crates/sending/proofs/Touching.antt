@@ -17,12 +17,12 @@ use Rattle.channel.specs.Marks.{off}
 use Rattle.recordings.specs.Records.{framesIn}
 use Rattle.recordings.specs.Answer.{counted}
 use Rattle.machine.specs.Table.{Table}
-use Rattle.machine.specs.Machine.{Machine, runMachine, allConform}
+use Rattle.machine.specs.Machine.{Machine, runningWith, runMachine, allConform}
 use Rattle.contacts.specs.Touch.{touchView}
 use Rattle.writing.specs.TouchDraft.{checkedFrames, framesDraft, draftOf, touchDraft}
 use Rattle.writing.proofs.Checked.{checked-got}
 use Rattle.sending.specs.Panel.{panelRules, panelMachine, panelOfParts, offsetStands, sendingDraft, touchSending}
-use Rattle.sending.specs.Judging.{running, AreFrames, permitted, faultOf}
+use Rattle.sending.specs.Judging.{AreFrames, permitted, faultOf}
 use Rattle.sending.specs.declared.Panel.{Panel}
 use Rattle.sending.proofs.Drafts.{Tame, Told, frames-told}
 
@@ -112,7 +112,7 @@ module _ (p : Panel) (time : Milliseconds) (records : List ℕ) where
     parted begun t = panelOfParts (record { greeted = p .greeted; ready = p .ready; suspended = p .suspended; begun = begun; settings = p .settings }) t
 
     -- the panel that it leaves
-    pub touch-leaves : (b : ℕ) (u : Table) → b ≡ begunBy 1 (p .begun) n → running u ≡ runMachine touchView (panelRules p) (panelMachine p) (w .frames)
+    pub touch-leaves : (b : ℕ) (u : Table) → b ≡ begunBy 1 (p .begun) n → runningWith u ≡ runMachine touchView (panelRules p) (panelMachine p) (w .frames)
         → parted b u ≡ touchSending p time records .panel
     unfolding touchSending
     touch-leaves b u e q =

@@ -16,7 +16,7 @@ use Rattle.recordings.specs.Records.{frameRecords, framesIn}
 use Rattle.machine.specs.Table.{Table}
 use Rattle.machine.specs.Rules.{Rules}
 use Rattle.machine.specs.Conforms.{tableAfter, conforms}
-use Rattle.machine.specs.Machine.{Machine, runMachine, allConform}
+use Rattle.machine.specs.Machine.{runningWith, runMachine, allConform}
 use Rattle.contacts.specs.Touch.{touchView}
 use Rattle.contacts.specs.Ruling.{Counted}
 use Rattle.sending.specs.Panel.{panelMachine, panelRules, offsetStands}
@@ -24,10 +24,6 @@ use Rattle.sending.specs.declared.Panel.{Panel}
 use Rattle.sending.specs.declared.Step.{Step}
 
 -- ---- frames of records
-
--- the machine of a table that is lent
-abbrev pub running : Table → Machine
-running t = record { table = t; running = true }
 
 -- records that begin with a whole frame
 pub record BeginsFrame (l : List ℕ) : Type 0 where
@@ -54,8 +50,8 @@ Steps rules active l r t u = (f : Frame Contact) (rest : List ℕ) → frameReco
 
 -- whether the frames of records all conform, and the table that they leave where they do
 pub record RunsThrough (rules : Rules Contact) (l : List ℕ) (r : Bool) (t u : Table) : Type 0 where
-  pub judged : (fs : List (Frame Contact)) (rest : List ℕ) → framesIn l ≡ got fs rest → r ≡ allConform touchView rules (running t) fs
-  pub table : (fs : List (Frame Contact)) (rest : List ℕ) → framesIn l ≡ got fs rest → r ≡ true → running u ≡ runMachine touchView rules (running t) fs
+  pub judged : (fs : List (Frame Contact)) (rest : List ℕ) → framesIn l ≡ got fs rest → r ≡ allConform touchView rules (runningWith t) fs
+  pub table : (fs : List (Frame Contact)) (rest : List ℕ) → framesIn l ≡ got fs rest → r ≡ true → runningWith u ≡ runMachine touchView rules (runningWith t) fs
 
 -- the offset of a head, and 0 of any other record
 abbrev pub offsetIn : Record → ℕ
@@ -79,4 +75,4 @@ faultOf p fs =
 -- .. of the frames of records, and the table that they leave
 pub record Faults (p : Panel) (l : List ℕ) (r : ℕ) (u : Table) : Type 0 where
   pub fault : (fs : List (Frame Contact)) (rest : List ℕ) → framesIn l ≡ got fs rest → r ≡ faultOf p fs
-  pub table : (fs : List (Frame Contact)) (rest : List ℕ) → framesIn l ≡ got fs rest → r ≡ none → running u ≡ runMachine touchView (panelRules p) (panelMachine p) fs
+  pub table : (fs : List (Frame Contact)) (rest : List ℕ) → framesIn l ≡ got fs rest → r ≡ none → runningWith u ≡ runMachine touchView (panelRules p) (panelMachine p) fs

@@ -22,7 +22,7 @@ use Rattle.framing.specs.Frame.{Frame, begunBy}
 use Rattle.channel.specs.Marks.{off, mark, judgedBy}
 use Rattle.machine.specs.Rules.{Rules}
 use Rattle.machine.specs.Table.{Table, resting, stateAt}
-use Rattle.machine.specs.Machine.{Machine, runMachine, allConform, dismissTable}
+use Rattle.machine.specs.Machine.{Machine, runningWith, runMachine, allConform, dismissTable}
 use Rattle.contacts.specs.Touch.{touchView, touchRules}
 use Rattle.writing.specs.TouchDraft.{framesDraft, checkedFrames}
 use Rattle.sending.specs.declared.Panel.{Panel}
@@ -37,7 +37,7 @@ panelTable p = record { states = p .states; xs = p .xs; ys = p .ys }
 
 -- a panel's machine is never ignoring: it sends no frame that does not conform
 abbrev pub panelMachine : Panel → Machine
-panelMachine p = record { table = panelTable p; running = true }
+panelMachine p = runningWith (panelTable p)
 
 abbrev pub panelRules : Panel → Rules Contact
 panelRules p = touchRules (p .settings .most)

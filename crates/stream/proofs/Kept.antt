@@ -38,6 +38,6 @@ module _ {S C R : Type 0} {profile : Profile S C} {table : ℕ → ℕ → ℕ} 
   pub next-kept : (s : Stream S) (g : Given S C) → Proper Fits s g → Kept profile Live PlaceFits s → Kept profile Live PlaceFits (next profile s g)
   unfolding next
   next-kept s nothing p k = k
-  next-kept s (settings x) p k = resting-steady law (profile .rules x .most) (s .machine) p
+  next-kept s (settings x) p k = resting-steady law (profile .rules x .most) (s .machine) p (k .empty) (k .marks)
   next-kept s (frames fs) p k = frames-kept s fs p k
   next-kept s (dismissal id) p k = dismiss-steady law (profile .rules (s .settings) .most) (s .machine) id k

@@ -6,4 +6,5 @@ pub mod Rested
 pub mod Paths
 -- The sentences, and a second instance of them.
 pub mod Demand
+pub mod Set
 mod Second

@@ -300,7 +300,7 @@ module _ {S C R : Type 0} {profile : Profile S C} {table : ℕ → ℕ → ℕ} 
       where
         go : {n : Machine} {s : List ℕ} → Judged (profile .view) (profile .rules x) m f n s → MovesBy id (m .table) s (n .table)
         go (injects c) = frame-leads id x (m .table) f (h .table) hf (conforming (profile .view) (profile .rules x) (m .table) (f .contacts) c)
-        go ignores = moves-none id (m .table)
+        go (ignores i) = moves-none id (m .table)
         go Judged.cancels = cancels-lead (m .table) (h .table) id l
 
     run-leads : (x : S) (m : Machine) (fs : List (Frame C)) → Steady Live PlaceFits (profile .rules x .most) m → All (FrameFits Fits) fs

@@ -11,83 +11,82 @@ use Rattle.framing.proofs.Timed.{timed-cons, timed-append}
 use Rattle.machine.specs.Table.{Table, resting}
 use Rattle.machine.specs.Rules.{View, Rules}
 use Rattle.machine.specs.Conforms.{conforms}
-use Rattle.machine.specs.Machine.{Machine, injected, cancelled, verdict, machineAfter, bytesFor, stepMachine, stepBytes, runMachine, runBytes}
+use Rattle.machine.specs.Held.{nobody, opening}
+use Rattle.machine.specs.Machine.{Machine, runningWith, injected, cancelled, verdict, machineAfter, bytesFor, stepMachine, stepBytes, runMachine, runBytes}
 use Rattle.machine.proofs.Machine.{machine-append, bytes-append}
 use Rattle.stream.specs.Stream.{Profile, Stream, Given, frames, opens, rested, machineAt, bytesAt, next, wrote, after, written, AsRested}
 use Rattle.stream.proofs.Quiet.{timed-opens}
 
--- ---- an opening frame, in either mode
+-- ---- an opening frame, in either mode: running there is no set, and ignoring the frame empties it
 
-module _ {C : Type 0} (view : View C) (rules : Rules C) (t : Table) (f : Frame C) (o : opens view f ≡ true) where
-  abbrev inMode : Bool → Machine
-  inMode b = record { table = t; running = b }
+module _ {C : Type 0} (view : View C) (rules : Rules C) (t : Table) (held : List ℕ) (f : Frame C) (o : opening view held (f .contacts) ≡ true) where
+  abbrev machineIn : Bool → Machine
+  machineIn b = record { table = t; running = b; held = held }
 
-  open-machine : (b : Bool) → stepMachine view rules (inMode b) f ≡ stepMachine view rules (inMode true) f
+  open-machine : (b : Bool) → (b ≡ true → held ≡ nobody) → stepMachine view rules (machineIn b) f ≡ stepMachine view rules (runningWith t) f
   unfolding stepMachine verdict
-  open-machine true = refl
-  open-machine false = rw o (go (conforms view rules t (f .contacts)))
+  open-machine true e = ap (λ h. stepMachine view rules (record { table = t; running = true; held = h }) f) (e refl)
+  open-machine false e = rw o (go (conforms view rules t (f .contacts)))
     where
-      go : (c : Bool) → machineAfter view (cond c injected cancelled) (rules .next) (inMode false) (f .contacts) ≡ machineAfter view (cond c injected cancelled) (rules .next) (inMode true) (f .contacts)
+      go : (c : Bool) → machineAfter view (cond c injected cancelled) (rules .next) (machineIn false) (f .contacts) ≡ machineAfter view (cond c injected cancelled) (rules .next) (runningWith t) (f .contacts)
       go true = refl
       go false = refl
 
-  open-bytes : (b : Bool) → stepBytes view rules (inMode b) f ≡ stepBytes view rules (inMode true) f
+  bytes-alike : (b c : Bool) → bytesFor view (cond c injected cancelled) (machineIn b) f ≡ bytesFor view (cond c injected cancelled) (runningWith t) f
+  bytes-alike b true = refl
+  bytes-alike b false = refl
+
+  open-bytes : (b : Bool) → stepBytes view rules (machineIn b) f ≡ stepBytes view rules (runningWith t) f
   unfolding stepBytes verdict
-  open-bytes true = refl
-  open-bytes false = rw o (go (conforms view rules t (f .contacts)))
-    where
-      go : (c : Bool) → bytesFor view (cond c injected cancelled) (inMode false) f ≡ bytesFor view (cond c injected cancelled) (inMode true) f
-      go true = refl
-      go false = refl
+  open-bytes true = bytes-alike true (conforms view rules t (f .contacts))
+  open-bytes false = rw o (bytes-alike false (conforms view rules t (f .contacts)))
 
 -- ---- the frames of a message from an opening one on, with no contact active before it
 
-module _ {C : Type 0} (view : View C) (rules : Rules C) (m : Machine) (e : m .table ≡ resting) (f : Frame C) (fs : List (Frame C)) (o : opens view f ≡ true) where
-  abbrev running : Machine
-  running = record { table = resting; running = true }
+module _ {C : Type 0} (view : View C) (rules : Rules C) (m : Machine) (e : m .table ≡ resting) (n : m .running ≡ true → m .held ≡ nobody) (f : Frame C) (fs : List (Frame C)) (o : opens view m f ≡ true) where
+  in-mode : m ≡ record { table = resting; running = m .running; held = m .held }
+  in-mode = λ i. record { table = e i; running = m .running; held = m .held }
 
-  in-mode : m ≡ record { table = resting; running = m .running }
-  in-mode = λ i. record { table = e i; running = m .running }
+  first-machine : stepMachine view rules m f ≡ stepMachine view rules (runningWith resting) f
+  first-machine = ap (λ (k : Machine). stepMachine view rules k f) in-mode ∙ open-machine view rules resting (m .held) f o (m .running) n
 
-  first-machine : stepMachine view rules m f ≡ stepMachine view rules running f
-  first-machine = ap (λ (k : Machine). stepMachine view rules k f) in-mode ∙ open-machine view rules resting f o (m .running)
+  first-bytes : stepBytes view rules m f ≡ stepBytes view rules (runningWith resting) f
+  first-bytes = ap (λ (k : Machine). stepBytes view rules k f) in-mode ∙ open-bytes view rules resting (m .held) f o (m .running)
 
-  first-bytes : stepBytes view rules m f ≡ stepBytes view rules running f
-  first-bytes = ap (λ (k : Machine). stepBytes view rules k f) in-mode ∙ open-bytes view rules resting f o (m .running)
-
-  from-machine : runMachine view rules m (f ∷ fs) ≡ runMachine view rules running (f ∷ fs)
+  from-machine : runMachine view rules m (f ∷ fs) ≡ runMachine view rules (runningWith resting) (f ∷ fs)
   unfolding runMachine
   from-machine = ap (λ (k : Machine). runMachine view rules k fs) first-machine
 
-  from-bytes : runBytes view rules m (f ∷ fs) ≡ runBytes view rules running (f ∷ fs)
+  from-bytes : runBytes view rules m (f ∷ fs) ≡ runBytes view rules (runningWith resting) (f ∷ fs)
   unfolding runBytes
   from-bytes = λ i. first-bytes i ++ runBytes view rules (first-machine i) fs
 
 -- ---- the two streams
 
-module _ {S C : Type 0} (profile : Profile S C) (s : Stream S) (fs : List (Frame C)) (f : Frame C) (gs : List (Frame C)) (o : opens (profile .view) f ≡ true) (z : machineAt profile s fs .table ≡ resting) where
+module _ {S C : Type 0} (profile : Profile S C) (s : Stream S) (fs : List (Frame C)) (f : Frame C) (gs : List (Frame C)) (o : opens (profile .view) (machineAt profile s fs) f ≡ true) (z : machineAt profile s fs .table ≡ resting)
+    (n : machineAt profile s fs .running ≡ true → machineAt profile s fs .held ≡ nobody) where
   abbrev untimed : Bool
   untimed = profile .untimed (s .settings)
 
   abbrev rules : Rules C
   rules = profile .rules (s .settings)
 
-  timed-open : opens (profile .view) (timedFrame untimed f) ≡ true
-  timed-open = timed-opens (profile .view) untimed f ∙ o
+  timed-open : opens (profile .view) (machineAt profile s fs) (timedFrame untimed f) ≡ true
+  timed-open = timed-opens (profile .view) untimed (machineAt profile s fs) f ∙ o
 
   whole-machine : machineAt profile s (fs ++ (f ∷ gs)) ≡ machineAt profile (rested (s .settings)) (f ∷ gs)
   unfolding rested
   whole-machine =
       rw (timed-append untimed fs (f ∷ gs), timed-cons untimed f gs)
       (machine-append (profile .view) rules (s .machine) (timedFrames untimed fs) (timedFrame untimed f ∷ timedFrames untimed gs)
-      ∙ from-machine (profile .view) rules (machineAt profile s fs) z (timedFrame untimed f) (timedFrames untimed gs) timed-open)
+      ∙ from-machine (profile .view) rules (machineAt profile s fs) z n (timedFrame untimed f) (timedFrames untimed gs) timed-open)
 
   whole-bytes : bytesAt profile s (fs ++ (f ∷ gs)) ≡ bytesAt profile s fs ++ bytesAt profile (rested (s .settings)) (f ∷ gs)
   unfolding rested
   whole-bytes =
       rw (timed-append untimed fs (f ∷ gs), timed-cons untimed f gs)
       (bytes-append (profile .view) rules (s .machine) (timedFrames untimed fs) (timedFrame untimed f ∷ timedFrames untimed gs)
-      ∙ ap (λ (l : List ℕ). bytesAt profile s fs ++ l) (from-bytes (profile .view) rules (machineAt profile s fs) z (timedFrame untimed f) (timedFrames untimed gs) timed-open))
+      ∙ ap (λ (l : List ℕ). bytesAt profile s fs ++ l) (from-bytes (profile .view) rules (machineAt profile s fs) z n (timedFrame untimed f) (timedFrames untimed gs) timed-open))
 
   begun-whole : begunBy true (s .begun) (length (fs ++ (f ∷ gs))) ≡ begunBy true true (length (f ∷ gs))
   begun-whole = begun-some true (s .begun) fs f gs ∙ sym (begun-some true true [] f gs)

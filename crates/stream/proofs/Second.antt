@@ -25,14 +25,19 @@ use Rattle.house.proofs.Front.{front-is, front-long}
 use Rattle.house.proofs.WellFormed.{never}
 use Rattle.framing.specs.Frame.{Frame}
 use Rattle.house.specs.Records.{recordsIn}
-use Rattle.machine.specs.Table.{Table, contacts, stateAt, placeAt, origin, active}
+use Rattle.machine.specs.Table.{Table, contacts, stateAt, placeAt, origin, resting, active}
 use Rattle.machine.specs.Rules.{View}
-use Rattle.machine.specs.Machine.{cancelFlags}
+use Rattle.machine.specs.Held.{isHeld}
+use Rattle.machine.specs.Machine.{runningWith, cancelFlags}
+use Rattle.machine.proofs.Held.{nobody-length}
 use Rattle.stream.specs.Stream.{Profile, Stream, Given, opens, Unopened, Silent, NoneActive, rested, machineAt, after, written, AsRested}
+use Rattle.stream.specs.Set.{InSet, log}
 use Rattle.stream.specs.Path.{Seen, head, contact, refused, path, at}
 use Rattle.stream.specs.Asked.{TableLaw, Laws, All, FrameFits, AllProper}
+use Rattle.stream.proofs.Steadiness.{resting-steady}
 use Rattle.stream.proofs.Kept.{Kept}
 use Rattle.stream.proofs.Demand.{each-contact's-records-are-a-legal-path, from-an-opening-frame-as-if-rested, a-silent-stream-writes-nothing-until-an-opening-frame}
+use Rattle.stream.proofs.Set.{the-set-is-the-sentence}
 
 -- ---- contacts and their records
 
@@ -176,16 +181,26 @@ tap-law =
       };
     }
 
+rested-kept : Kept taps Live Near (rested tt)
+unfolding rested
+rested-kept = resting-steady tap-law 1 (runningWith resting) refl (λ e. refl) nobody-length
+
 -- ---- THE SENTENCES, OF TAPS
 
 each-tap's-records-are-a-legal-path : (id : ℕ) → id < contacts → (gs : List (Given Unit Tap)) → AllProper taps TapFits (rested tt) gs
     → let t : Table = after taps (rested tt) gs .machine .table in path tapNext (λ x. x) id (recordsIn tapSeen (written taps (rested tt) gs)) out origin ≡ at (stateAt t id) (placeAt t id)
 unfolding rested
-each-tap's-records-are-a-legal-path id l gs p = each-contact's-records-are-a-legal-path tap-law id l (rested tt) gs refl p
+each-tap's-records-are-a-legal-path id l gs p = each-contact's-records-are-a-legal-path tap-law id l (rested tt) gs refl rested-kept p
 
-taps-from-an-opening-frame-as-if-rested : (s : Stream Unit) → Kept taps Live Near s → (fs : List (Frame Tap)) (f : Frame Tap) (gs : List (Frame Tap)) → All (FrameFits TapFits) (fs ++ (f ∷ gs)) → opens tapView f ≡ true
+taps-from-an-opening-frame-as-if-rested : (s : Stream Unit) → Kept taps Live Near s → (fs : List (Frame Tap)) (f : Frame Tap) (gs : List (Frame Tap)) → All (FrameFits TapFits) (fs ++ (f ∷ gs)) → opens tapView (machineAt taps s fs) f ≡ true
     → NoneActive (machineAt taps s fs .table) → (more : List (Given Unit Tap)) → AsRested taps s fs f gs more
 taps-from-an-opening-frame-as-if-rested = from-an-opening-frame-as-if-rested tap-law
 
-silent-taps-write-nothing-until-an-opening-frame : (s : Stream Unit) (gs : List (Given Unit Tap)) → Silent s → Unopened tapView gs → (written taps s gs ≡ []) × Silent (after taps s gs)
+silent-taps-write-nothing-until-an-opening-frame : (s : Stream Unit) (gs : List (Given Unit Tap)) → Silent s → Unopened taps s gs → (written taps s gs ≡ []) × Silent (after taps s gs)
 silent-taps-write-nothing-until-an-opening-frame = a-silent-stream-writes-nothing-until-an-opening-frame taps
+
+the-set-of-taps-is-the-sentence : (id : ℕ) → id < contacts → (gs : List (Given Unit Tap)) → AllProper taps TapFits (rested tt) gs
+    → (isHeld (after taps (rested tt) gs .machine .held) id ≡ true → InSet tapView id (log taps (rested tt) gs))
+    × (InSet tapView id (log taps (rested tt) gs) → isHeld (after taps (rested tt) gs .machine .held) id ≡ true)
+unfolding rested
+the-set-of-taps-is-the-sentence id l gs p = the-set-is-the-sentence tap-law id l (rested tt) gs refl p rested-kept

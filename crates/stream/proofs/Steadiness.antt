@@ -1,4 +1,5 @@
--- What frames and dismissals keep true of the contacts: whole, in live states, at 0, 0 when out of range, at positions that fit, and not too many.
+-- What frames and dismissals keep true of the contacts: whole, in live states, at 0, 0 when out of range, at positions that fit, and not too many;
+-- and of the set of ids: a mark for each, and empty while running.
 -- Assumes nothing.
 use Prim.Native.Nat.{ℕ, _≤_, _<_}
 use mathlib.Core.Path.{_≡_, refl, sym, ap, _∙_}
@@ -8,7 +9,7 @@ use native.Mathlib.Omega.{arith}
 use borrow.Author.Tests.{ltb-true, ltb-false, leb-true, eqb-true, eqb-false, not-true}
 use lib.Dec.{eqb, ltb}
 use lib.IntN.{pos}
-use lib.ListN.{getD, replicate, length-replicate, getD-replicate, List·getD-eq-default}
+use lib.ListN.{length, getD, replicate, length-replicate, getD-replicate, List·getD-eq-default}
 use lib.Seq.{ext-getD}
 use Rattle.states.specs.Table.{out, hovering, illegal}
 use Rattle.house.specs.Layout.{touched}
@@ -18,9 +19,11 @@ use Rattle.framing.specs.Frame.{Frame, frameBytes}
 use Rattle.machine.specs.Table.{Table, contacts, stateAt, placeAt, withContact, origin, resting, countActive}
 use Rattle.machine.specs.Rules.{View, Rules}
 use Rattle.machine.specs.Conforms.{every, distinct, nextOf, legal, stays, placeIn, moved, tableAfter, conforms}
-use Rattle.machine.specs.Machine.{Machine, opening, Verdict, injected, ignored, cancelled, verdict, machineAfter, bytesFor, cancels as cancelsOf, stepMachine, stepBytes, runMachine, dismissTable}
+use Rattle.machine.specs.Held.{nobody, activeIds, heldWithout, heldAfter}
+use Rattle.machine.specs.Machine.{Machine, arraysIn, inMode, isJudged, Verdict, injected, ignored, cancelled, verdict, machineAfter, bytesFor, cancels as cancelsOf, stepMachine, stepBytes, runMachine, dismissTable, dismissArrays}
 use Rattle.machine.proofs.Table.{Whole, state-same, state-other, place-same, place-other, with-whole, count-set, resting-whole, resting-state, resting-place, resting-count}
 use Rattle.machine.proofs.Conforms.{both-left, both-right, every-first, every-others, distinct-first, distinct-others, legal-behind}
+use Rattle.machine.proofs.Held.{nobody-length, active-length, without-length, without-nobody, after-length}
 use Rattle.stream.specs.Stream.{Profile, NoneActive}
 use Rattle.stream.specs.Path.{Seen}
 use Rattle.stream.specs.Asked.{Laws, All, FrameFits}
@@ -103,21 +106,26 @@ module _ {C : Type 0} (view : View C) (rules : Rules C) where
 
   pub data Judged (m : Machine) (f : Frame C) : Machine → List ℕ → Type 0 where
     injects : conforms view rules (m .table) (f .contacts) ≡ true
-        → Judged m f (record { table = tableAfter view (rules .next) (m .table) (f .contacts); running = true }) (frameBytes (view .bytes touched) f)
-    ignores : Judged m f m []
-    cancels : Judged m f (record { table = resting; running = false }) (cancelsOf view (m .table))
+        → Judged m f (record { table = tableAfter view (rules .next) (m .table) (f .contacts); running = true; held = cond (m .running) (m .held) nobody }) (frameBytes (view .bytes touched) f)
+    ignores : m .running ≡ false → Judged m f (record { table = m .table; running = m .running; held = heldAfter view (m .held) (f .contacts) }) []
+    cancels : Judged m f (record { table = resting; running = false; held = heldAfter view (activeIds (m .table)) (f .contacts) }) (cancelsOf view (m .table))
+
+  -- a frame that is not judged finds the machine ignoring
+  unjudged : (a b : Bool) → cond a true b ≡ false → a ≡ false
+  unjudged true b h = never refl h
+  unjudged false b h = refl
 
   pub judged : (m : Machine) (f : Frame C) → Judged m f (stepMachine view rules m f) (stepBytes view rules m f)
   unfolding stepMachine stepBytes verdict
-  judged m f = go (cond (m .running) true (opening view (f .contacts))) (conforms view rules (m .table) (f .contacts)) refl
+  judged m f = go (isJudged view m (f .contacts)) refl (conforms view rules (m .table) (f .contacts)) refl
     where
       by : Verdict → Type 0
       by v = Judged m f (machineAfter view v (rules .next) m (f .contacts)) (bytesFor view v m f)
 
-      go : (a b : Bool) → conforms view rules (m .table) (f .contacts) ≡ b → by (cond a (cond b injected cancelled) ignored)
-      go true true h = injects h
-      go true false h = cancels
-      go false b h = ignores
+      go : (a : Bool) → isJudged view m (f .contacts) ≡ a → (b : Bool) → conforms view rules (m .table) (f .contacts) ≡ b → by (cond a (cond b injected cancelled) ignored)
+      go true j true h = injects h
+      go true j false h = cancels
+      go false j b h = ignores (unjudged (m .running) _ j)
 
 -- ---- a machine that frames leave
 
@@ -125,6 +133,16 @@ pub record Steady (Live : ℕ → Type 0) (PlaceFits : Point → Type 0) (most :
   pub table : Sound Live PlaceFits (m .table)
   pub few : countActive (m .table .states) ≤ most
   pub ignoring : m .running ≡ false → m .table ≡ resting
+  pub empty : m .running ≡ true → m .held ≡ nobody
+  pub marks : length (m .held) ≡ contacts
+
+-- what an injected frame leaves of the set
+pub emptied : (m : Machine) → (m .running ≡ true → m .held ≡ nobody) → cond (m .running) (m .held) nobody ≡ nobody
+emptied m h = go (m .running) refl
+  where
+    go : (b : Bool) → m .running ≡ b → cond b (m .held) nobody ≡ nobody
+    go true e = h e
+    go false e = refl
 
 module _ {S C R : Type 0} {profile : Profile S C} {table : ℕ → ℕ → ℕ} {read : List ℕ → R} {seen : R → Seen} {Live : ℕ → Type 0} {Fits : C → Type 0} {PlaceFits : Point → Type 0} (law : Laws profile table read seen Live Fits PlaceFits) where
   pub resting-sound : Sound Live PlaceFits resting
@@ -136,12 +154,14 @@ module _ {S C R : Type 0} {profile : Profile S C} {table : ℕ → ℕ → ℕ} 
         fits = λ id. rw (resting-place id) (law .records .origin-fits);
       }
 
-  pub resting-steady : (most : ℕ) (m : Machine) → m .table ≡ resting → Steady Live PlaceFits most m
-  resting-steady most m e =
+  pub resting-steady : (most : ℕ) (m : Machine) → m .table ≡ resting → (m .running ≡ true → m .held ≡ nobody) → length (m .held) ≡ contacts → Steady Live PlaceFits most m
+  resting-steady most m e n l =
       record {
         table = rw e resting-sound;
         few = rw (ap (λ (t : Table). countActive (t .states)) e ∙ resting-count) (omega arith);
         ignoring = λ h. e;
+        empty = n;
+        marks = l;
       }
 
   place-in-fits : (s : ℕ) (p : Point) → PlaceFits p → PlaceFits (placeIn s p)
@@ -183,9 +203,21 @@ module _ {S C R : Type 0} {profile : Profile S C} {table : ℕ → ℕ → ℕ} 
               table = rw (law .one-table x) (after-sound (m .table) (f .contacts) (h .table) (hf .contacts) (k .distinct) (rw (law .one-table x) at (k .legal)));
               few = k .few;
               ignoring = λ e. never refl e;
+              empty = λ e. emptied m (h .empty);
+              marks = ap length (emptied m (h .empty)) ∙ nobody-length;
             }
-        go ignores = h
-        go cancels = resting-steady (profile .rules x .most) (record { table = resting; running = false }) refl
+        go (ignores i) =
+            record {
+              table = h .table;
+              few = h .few;
+              ignoring = h .ignoring;
+              empty = λ e. never e i;
+              marks = after-length (profile .view) (m .held) (f .contacts) ∙ h .marks;
+            }
+        go cancels =
+            let a = activeIds (m .table) in
+            let l = after-length (profile .view) a (f .contacts) ∙ (active-length (m .table) ∙ h .table .whole .states) in
+            resting-steady (profile .rules x .most) (record { table = resting; running = false; held = heldAfter (profile .view) a (f .contacts) }) refl (λ e. never e refl) l
 
     pub run-steady : (m : Machine) (fs : List (Frame C)) → All (FrameFits Fits) fs → Steady Live PlaceFits (profile .rules x .most) m
         → Steady Live PlaceFits (profile .rules x .most) (runMachine (profile .view) (profile .rules x) m fs)
@@ -217,10 +249,12 @@ module _ {S C R : Type 0} {profile : Profile S C} {table : ℕ → ℕ → ℕ} 
     dismiss-resting : t ≡ resting → dismissTable t id ≡ resting
     dismiss-resting e = dismiss-keeps (λ u. u ≡ resting) e (λ k l. absurd (omega (arith, ap (λ u. stateAt u id) e ∙ resting-state id)))
 
-  pub dismiss-steady : (most : ℕ) (m : Machine) (id : ℕ) → Steady Live PlaceFits most m → Steady Live PlaceFits most (record { table = dismissTable (m .table) id; running = m .running })
+  pub dismiss-steady : (most : ℕ) (m : Machine) (id : ℕ) → Steady Live PlaceFits most m → Steady Live PlaceFits most (inMode (m .running) (dismissArrays (arraysIn m) id))
   dismiss-steady most m id h =
       record {
         table = dismiss-sound (m .table) id (h .table);
         few = dismiss-few (m .table) id (h .table) most (h .few);
         ignoring = λ e. dismiss-resting (m .table) id (h .table) (h .ignoring e);
+        empty = λ e. ap (λ l. heldWithout l id) (h .empty e) ∙ without-nobody id;
+        marks = without-length (m .held) id ∙ h .marks;
       }

@@ -2,15 +2,15 @@
 -- which are read already. A receiver may have several: to each of them a message is something, or nothing.
 use Prim.Native.Nat.{ℕ}
 use mathlib.Core.Path.{_≡_}
-use mathlib.Core.Bool.{Bool, true, false, not}
+use mathlib.Core.Bool.{Bool, true, false, cond}
 use mathlib.Core.List.{List, [], _∷_, _++_}
 use Rattle.states.specs.Table.{out}
 use lib.ListN.{length}
 use Rattle.framing.specs.Frame.{Frame, timedFrames, begunBy}
 use Rattle.machine.specs.Table.{Table, stateAt, resting}
 use Rattle.machine.specs.Rules.{View, Rules}
-use Rattle.machine.specs.Conforms.{every}
-use Rattle.machine.specs.Machine.{Machine, Counts, cancelled, opening, verdict, runMachine, runBytes, runCounts, dismissTable, dismissBytes}
+use Rattle.machine.specs.Held.{opening}
+use Rattle.machine.specs.Machine.{Machine, arraysIn, inMode, runningWith, Counts, cancelled, verdict, stepMachine, runMachine, runBytes, runCounts, dismissArrays, dismissBytes}
 
 -- what a stream of contacts C goes by under settings S: what its machine sees of a contact, what it is held to, and whether offset 0 is written
 -- (ready flag 2)
@@ -41,7 +41,7 @@ framesGiven (dismissal id) = []
 
 -- "A rested receiver has accepted event 2, is past its first frame, is running, and has no active contact."
 unfoldable pub rested : {S : Type 0} → S → Stream S
-rested x = record { settings = x; machine = record { table = resting; running = true }; begun = true }
+rested x = record { settings = x; machine = runningWith resting; begun = true }
 
 -- what a cancelled frame leaves: ignoring, every contact out of range
 pub record Silent {S : Type 0} (s : Stream S) : Type 0 where
@@ -52,19 +52,17 @@ pub record Silent {S : Type 0} (s : Stream S) : Type 0 where
 abbrev pub NoneActive : Table → Type 0
 NoneActive t = (id : ℕ) → stateAt t id ≡ out
 
--- ---- "The meaning of "opening" is the same in both modes."
+-- ---- "The meaning of "opening" is the same in both modes.": outside ignoring the set is empty
 
 module _ {C : Type 0} (view : View C) where
-  abbrev pub opens : Frame C → Bool
-  opens f = opening view (f .contacts)
+  -- a frame that finds the machine m
+  abbrev pub opens : Machine → Frame C → Bool
+  opens m f = opening view (m .held) (f .contacts)
 
-  unfoldable pub unopened : List (Frame C) → Bool
-  unopened fs = every (λ f. not (opens f)) fs
-
-  -- no opening frame is accepted
-  unfoldable pub Unopened : {S : Type 0} → List (Given S C) → Type 0
-  Unopened [] = Unit
-  Unopened (g ∷ gs) = (unopened (framesGiven g) ≡ true) × Unopened gs
+  -- none of these frames is opening, each where those before it have led
+  unfoldable pub unopened : Rules C → Machine → List (Frame C) → Bool
+  unopened rules m [] = true
+  unopened rules m (f ∷ fs) = cond (opens m f) false (unopened rules (stepMachine view rules m f) fs)
 
 module _ {S C : Type 0} (profile : Profile S C) where
   -- ---- the first frames of a message: the contacts and the mode after them, what they write, and how they are counted
@@ -82,6 +80,10 @@ module _ {S C : Type 0} (profile : Profile S C) where
   abbrev pub CancelledAfter : Stream S → List (Frame C) → Frame C → Type 0
   CancelledAfter s fs f = verdict (profile .view) (profile .rules (s .settings)) (machineAt s fs) (f .contacts) ≡ cancelled
 
+  -- none of the frames gs is opening, after the frames fs of their message
+  abbrev pub UnopenedAfter : Stream S → List (Frame C) → List (Frame C) → Type 0
+  UnopenedAfter s fs gs = unopened (profile .view) (profile .rules (s .settings)) (machineAt s fs) gs ≡ true
+
   -- ---- what one message leaves and writes
 
   unfoldable pub next : Stream S → Given S C → Stream S
@@ -91,7 +93,7 @@ module _ {S C : Type 0} (profile : Profile S C) where
   next s (dismissal id) =
       record {
         settings = s .settings;
-        machine = record { table = dismissTable (s .machine .table) id; running = s .machine .running };
+        machine = inMode (s .machine .running) (dismissArrays (arraysIn (s .machine)) id);
         begun = s .begun;
       }
 
@@ -110,6 +112,17 @@ module _ {S C : Type 0} (profile : Profile S C) where
   unfoldable pub written : Stream S → List (Given S C) → List ℕ
   written s [] = []
   written s (g ∷ gs) = wrote s g ++ written (next s g) gs
+
+  -- no opening frame is accepted
+  unfoldable pub Unopened : Stream S → List (Given S C) → Type 0
+  Unopened s [] = Unit
+  Unopened s (g ∷ gs) = UnopenedAfter s [] (framesGiven g) × Unopened (next s g) gs
+
+  -- the stream q is silent, and has the settings of s and the set that the frames fs leave of it
+  pub record SilentAs (s : Stream S) (fs : List (Frame C)) (q : Stream S) : Type 0 where
+    pub silent : Silent q
+    pub settings : q .settings ≡ s .settings
+    pub held : q .machine .held ≡ machineAt s fs .held
 
   -- "records are compared from that frame on": the stream s given the frames fs, f, gs and then `more` is, but for the frames fs, the rested one
   -- given f, gs and then `more`

@@ -72,6 +72,7 @@ impl Receiver {
                 &mut self.states,
                 &mut self.xs,
                 &mut self.ys,
+                &mut self.held,
             )
         };
         self.marks = marks;

@@ -26,7 +26,8 @@ fn messages(mut file: &[u8]) -> Vec<&[u8]> {
 }
 
 fn state(receiver: &Receiver) -> Vec<String> {
-    let contacts = (0..=255).map(|id| format!("{:?}", receiver.contact(id)));
+    let contacts =
+        (0..=255).map(|id| format!("{:?} {}", receiver.contact(id), receiver.is_held(id)));
     let modes = format!("{:?} {}", receiver.settings(), receiver.is_ignoring());
     contacts.chain([modes]).collect()
 }

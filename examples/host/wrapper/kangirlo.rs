@@ -10,7 +10,7 @@ mod panel;
 pub use batch::{Batch, BatchAnswer};
 pub use label::{Button, CHOICES_MOST, Choice, Label, button_at, set_shown};
 pub use panel::Panel;
-use std::mem::size_of;
+use std::mem::{offset_of, size_of};
 
 pub const MESSAGE_MOST: usize = 4096;
 pub const RECORD_BYTES: usize = 21;
@@ -71,7 +71,7 @@ pub struct Settings {
     pub most: u16,
 }
 
-/// One connection's receiver. Its marks go by value, and its contacts are lent where they stand.
+/// One connection's receiver. Its marks go by value, and its four arrays are lent where they stand.
 #[repr(C)]
 #[derive(Clone)]
 pub struct Receiver {
@@ -79,9 +79,10 @@ pub struct Receiver {
     states: [u8; 256],
     xs: [i32; 256],
     ys: [i32; 256],
+    held: [u8; 256],
 }
 
-const _: () = assert!(size_of::<Receiver>() == 2320);
+const _: () = assert!(size_of::<Receiver>() == 2576 && offset_of!(Receiver, held) == 2320);
 
 #[derive(Clone, Copy, Debug, PartialEq, Eq)]
 pub enum State {
@@ -124,9 +125,14 @@ impl Receiver {
         (self.marks.ready != 0).then_some(self.marks.settings)
     }
 
-    /// Whether frames are ignored until one opens.
+    /// Whether frames are ignored until one opens: one of contacts that are all 0x19, or all 0x19 or 0x0A with no id that is held.
     pub fn is_ignoring(&self) -> bool {
         self.marks.ignoring != 0
+    }
+
+    /// Whether an id is held. While no frames are ignored none is.
+    pub fn is_held(&self, id: u8) -> bool {
+        self.held[usize::from(id)] != 0
     }
 
     /// A contact's state and stored position.
@@ -151,6 +157,7 @@ impl Receiver {
                 &mut self.states,
                 &mut self.xs,
                 &mut self.ys,
+                &mut self.held,
             )
         };
         self.marks = marks;
@@ -451,6 +458,7 @@ mod c {
             states: *mut [u8; 256],
             xs: *mut [i32; 256],
             ys: *mut [i32; 256],
+            held: *mut [u8; 256],
         ) -> Turn;
         pub fn kangirlo_receive_all_parts(
             marks: Marks,
@@ -463,6 +471,7 @@ mod c {
             states: *mut [u8; 256],
             xs: *mut [i32; 256],
             ys: *mut [i32; 256],
+            held: *mut [u8; 256],
         ) -> BatchTurn;
         pub fn kangirlo_plain(
             message: *const u8,

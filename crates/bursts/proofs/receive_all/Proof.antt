@@ -22,7 +22,7 @@ same-length-2 c = search needs
 returns : tie.Need-returns
 returns c =
     let p = c .before .before .before .before .before .before in
-    let m = p .before .before .before .before .before .before in
+    let m = p .before .before .before .before .before .before .before in
     rw (c .of-parts .ensures) (rw (m .marks-of .ensures) at (p .receive-all-parts .ensures))
 
 pub receive-all-spec : {M : Type 1} → statement M

@@ -27,7 +27,7 @@ same-length-2 c = search needs
 returns-2 : tie.Need-returns-2
 returns-2 c =
     let t = c .before .before .before .before .before in
-    let e = t .before .before .before .before .before .before in
+    let e = t .before .before .before .before .before .before .before in
     let s = e .before .before .before .before .before .args in
     receives-all _ (s .buffer .now) _ (s .answers .now) _ (s .output .now) _ (sym (e .before .is-batch .ensures) ∙ not-false _ (e .if1 .left)) (t .feed-parts .ensures)
 

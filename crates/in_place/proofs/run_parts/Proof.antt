@@ -12,19 +12,19 @@ use Rattle.in_place.proofs.run_parts.Tie as tie
 
 -- an entry has two bytes and more, so the numbers do not outrun the file
 abbrev Inv-loop : tie.InvT-loop
-Inv-loop file page₀ output₀ marks₀ states₀ xs₀ ys₀ number₀ at₀ from₀ page output marks states xs ys number at from =
+Inv-loop file page₀ output₀ marks₀ states₀ xs₀ ys₀ held₀ number₀ at₀ from₀ page output marks states xs ys held number at from =
     (length page ≡ length page₀) × (length output ≡ length output₀) × (from ≤ length file) × (number ≤ from + 1)
 
 abbrev μ-loop : tie.MeasureT-loop
-μ-loop file page₀ output₀ marks₀ states₀ xs₀ ys₀ number₀ at₀ from₀ page output marks states xs ys number at from = length file - from
+μ-loop file page₀ output₀ marks₀ states₀ xs₀ ys₀ held₀ number₀ at₀ from₀ page output marks states xs ys held number at from = length file - from
 
 -- the entry that was found ends within the file
 inside : (c : tie.After-known-told Inv-loop μ-loop) →
     let l = c .before .before .before .before .before .before in
-    l .loop .from + (2 + c .before .front .given .0 .0) ≤ length (now (l .before .before .before .before .before .before .before .before .before .args .file))
+    l .loop .from + (2 + c .before .front .given .0 .0) ≤ length (now (l .before .before .before .before .before .before .before .before .before .before .args .file))
 inside c =
     let l = c .before .before .before .before .before .before in
-    entry-inside (now (l .before .before .before .before .before .before .before .before .before .args .file)) (l .loop .from) _ (l .loop .inv .2) (sym (c .before .before .before .read-front .ensures) ∙ c .before .front .given .1)
+    entry-inside (now (l .before .before .before .before .before .before .before .before .before .before .args .file)) (l .loop .from) _ (l .loop .inv .2) (sym (c .before .before .before .read-front .ensures) ∙ c .before .front .given .1)
 
 -- and no file is longer than a number can say
 short : (c : tie.After-known-told Inv-loop μ-loop) → c .before .before .before .before .before .before .loop .from + 2 < 2 ^ 64
@@ -92,15 +92,15 @@ add-line-requires c κs = search needs
 
 add-number : tie.Need-add-number Inv-loop μ-loop
 add-number c =
-    let k = c .before .before .before .before .before .before .before .before .before .before .before .before .before .before in
+    let k = c .before .before .before .before .before .before .before .before .before .before .before .before .before .before .before in
     omega (arith, short k, k .before .before .before .before .before .before .loop .inv .3)
 
 loop-less : tie.Need-loop-less Inv-loop μ-loop
-loop-less c = omega (arith, inside (c .before .before .before .before .before .before .before .before .before .before .before .before .before .before))
+loop-less c = omega (arith, inside (c .before .before .before .before .before .before .before .before .before .before .before .before .before .before .before))
 
 loop-again : tie.Need-loop-again Inv-loop μ-loop
 loop-again c =
-    let k = c .before .before .before .before .before .before .before .before .before .before .before .before .before .before in
+    let k = c .before .before .before .before .before .before .before .before .before .before .before .before .before .before .before in
     let l = k .before .before .before .before .before .before .loop in
     (search needs, search needs, omega (arith, inside k), omega (arith, l .inv .3))
 

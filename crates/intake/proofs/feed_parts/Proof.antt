@@ -9,8 +9,8 @@ use lib.ListN.{length, length-drop}
 use Rattle.slices.proofs.Tails.{tail-is}
 use Rattle.entries.specs.declared.Front.the-variants as Front
 use Rattle.house.specs.Fields.{recordBytes}
-use Rattle.contacts.specs.Ruling.{tableFrom}
-use Rattle.receiver.specs.Events.{ofParts}
+use Rattle.contacts.specs.Ruling.{arraysFrom}
+use Rattle.receiver.specs.Receive.{ofParts}
 use Rattle.intake.specs.declared.Fed.{Fed}
 use Rattle.intake.specs.Feeding.{nextIn, answerNumbers}
 use Rattle.intake.proofs.Taking.{Stands, Bounded, stands-first, stands-last, stands-stop, stands-next, found-inside, bounded}
@@ -18,11 +18,11 @@ use Rattle.intake.proofs.feed_parts.Statement.{statement}
 use Rattle.intake.proofs.feed_parts.Tie as tie
 
 abbrev Inv-loop : tie.InvT-loop
-Inv-loop marks₀ file least answers₀ output₀ states₀ xs₀ ys₀ places entries₀ used₀ records₀ marks answers output states xs ys entries used records =
-    Stands least (ofParts marks₀ (tableFrom states₀ xs₀ ys₀)) file answers₀ output₀ (record { receiver = ofParts marks (tableFrom states xs ys); entries = entries; used = used; records = records }) answers output
+Inv-loop marks₀ file least answers₀ output₀ states₀ xs₀ ys₀ held₀ places entries₀ used₀ records₀ marks answers output states xs ys held entries used records =
+    Stands least (ofParts marks₀ (arraysFrom states₀ xs₀ ys₀ held₀)) file answers₀ output₀ (record { receiver = ofParts marks (arraysFrom states xs ys held); entries = entries; used = used; records = records }) answers output
 
 abbrev μ-loop : tie.MeasureT-loop
-μ-loop marks₀ file least answers₀ output₀ states₀ xs₀ ys₀ places entries₀ used₀ records₀ marks answers output states xs ys entries used records =
+μ-loop marks₀ file least answers₀ output₀ states₀ xs₀ ys₀ held₀ places entries₀ used₀ records₀ marks answers output states xs ys held entries used records =
     places - entries
 
 short : (c : tie.At-loop Inv-loop μ-loop) → let a = c .before .before .before .before .before .before .args in (length (a .file .now) < 2 ^ 64) × (length (a .answers .now) * 4 < 2 ^ 64) × (length (a .output .now) < 2 ^ 64)
@@ -30,7 +30,7 @@ short c = let s = c .before .before .before .before .before .before in (omega ar
 
 -- where a turn begins
 abbrev fedAt : tie.At-loop Inv-loop μ-loop → Fed
-fedAt c = record { receiver = ofParts (c .loop .marks) (tableFrom (c .loop .states) (c .loop .xs) (c .loop .ys)); entries = c .loop .entries; used = c .loop .used; records = c .loop .records }
+fedAt c = record { receiver = ofParts (c .loop .marks) (arraysFrom (c .loop .states) (c .loop .xs) (c .loop .ys) (c .loop .held)); entries = c .loop .entries; used = c .loop .used; records = c .loop .records }
 
 -- the entry that it finds
 found : (c : tie.After-known-told Inv-loop μ-loop) →
@@ -42,8 +42,8 @@ found c = sym (c .before .before .before .next-entry .ensures) ∙ c .before .ne
 inside : (c : tie.After-known-told Inv-loop μ-loop) → let p = c .before .before .before .before .before .before in p .loop .used + 2 + c .before .next .given .0 .0 ≤ length (p .before .before .before .before .before .before .args .file .now)
 inside c = found-inside _ _ _ _ _ _ _ _ (c .before .before .before .before .before .before .loop .inv) _ (found c)
 
-few : (c : tie.After-receive-parts Inv-loop μ-loop) → let p = c .before .before .before .before .before .before .before .before .before .before .before .before in Bounded (p .loop .output) (fedAt p) (c .receive-parts .result .answer)
-few c = let k = c .before .before .before .before .before .before in bounded _ _ _ _ _ _ _ _ (k .before .before .before .before .before .before .loop .inv) _ (found k) _ _ _ (c .receive-parts .ensures)
+few : (c : tie.After-receive-parts Inv-loop μ-loop) → let p = c .before .before .before .before .before .before .before .before .before .before .before .before .before in Bounded (p .loop .output) (fedAt p) (c .receive-parts .result .answer)
+few c = let k = c .before .before .before .before .before .before .before in bounded _ _ _ _ _ _ _ _ (k .before .before .before .before .before .before .loop .inv) _ (found k) _ _ _ (c .receive-parts .ensures)
 
 is-whole-requires : tie.Need-is-whole-requires Inv-loop μ-loop
 is-whole-requires c κs = search needs
@@ -103,16 +103,16 @@ receive-parts-requires : tie.Need-receive-parts-requires Inv-loop μ-loop
 receive-parts-requires c κs = search needs
 
 mul-place : tie.Need-mul-place Inv-loop μ-loop
-mul-place c = let p = c .before .before .before .before .before .before .before .before .before .before .before .before .before .before in omega (arith, p .loop .inv .entries, short p .1)
+mul-place c = let p = c .before .before .before .before .before .before .before .before .before .before .before .before .before .before .before in omega (arith, p .loop .inv .entries, short p .1)
 
 mul-put-answer : tie.Need-mul-put-answer Inv-loop μ-loop
-mul-put-answer c = let p = c .before .before .before .before .before .before .before .before .before .before .before .before .before .before in omega (arith, p .loop .inv .entries, short p .1)
+mul-put-answer c = let p = c .before .before .before .before .before .before .before .before .before .before .before .before .before .before .before in omega (arith, p .loop .inv .entries, short p .1)
 
 sub-put-answer : tie.Need-sub-put-answer Inv-loop μ-loop
-sub-put-answer c = let p = c .before .before .before .before .before .before .before .before .before .before .before .before .before .before in omega (arith, p .loop .inv .entries, p .loop .inv .list)
+sub-put-answer c = let p = c .before .before .before .before .before .before .before .before .before .before .before .before .before .before .before in omega (arith, p .loop .inv .entries, p .loop .inv .list)
 
 part-put-answer-start : tie.Need-part-put-answer-start Inv-loop μ-loop
-part-put-answer-start c = let p = c .before .before .before .before .before .before .before .before .before .before .before .before .before .before in omega (arith, p .loop .inv .entries, p .loop .inv .list)
+part-put-answer-start c = let p = c .before .before .before .before .before .before .before .before .before .before .before .before .before .before .before in omega (arith, p .loop .inv .entries, p .loop .inv .list)
 
 part-put-answer-end : tie.Need-part-put-answer-end Inv-loop μ-loop
 part-put-answer-end c = search needs
@@ -120,26 +120,26 @@ part-put-answer-end c = search needs
 put-answer-requires : tie.Need-put-answer-requires Inv-loop μ-loop
 put-answer-requires c κs =
     let t = c .before .before .before in
-    let p = t .before .before .before .before .before .before .before .before .before .before .before .before in
+    let p = t .before .before .before .before .before .before .before .before .before .before .before .before .before in
     let n = ap length (tail-is (p .loop .answers) (answerNumbers * p .loop .entries)) ∙ length-drop (answerNumbers * p .loop .entries) (p .loop .answers) in
-    (omega (arith, t .before .before .before .before .before .before .before .before .before .before .before .loop-test .taken, p .loop .inv .list), omega (arith, few t .small))
+    (omega (arith, t .before .before .before .before .before .before .before .before .before .before .before .before .loop-test .taken, p .loop .inv .list), omega (arith, few t .small))
 
 add-entries : tie.Need-add-entries Inv-loop μ-loop
-add-entries c = let t = c .before .before .before .before .before .before .before in omega (arith, t .before .before .before .before .before .before .before .before .before .before .before .loop-test .taken, short (t .before .before .before .before .before .before .before .before .before .before .before .before) .1)
+add-entries c = let t = c .before .before .before .before .before .before .before in omega (arith, t .before .before .before .before .before .before .before .before .before .before .before .before .loop-test .taken, short (t .before .before .before .before .before .before .before .before .before .before .before .before .before) .1)
 
 add-records : tie.Need-add-records Inv-loop μ-loop
 add-records c =
     let t = c .before .before .before .before .before .before .before .before in
-    let p = t .before .before .before .before .before .before .before .before .before .before .before .before in
+    let p = t .before .before .before .before .before .before .before .before .before .before .before .before .before in
     omega (arith, few t .records, p .loop .inv .long, short p .2)
 
 loop-less : tie.Need-loop-less Inv-loop μ-loop
-loop-less c = omega (arith, c .before .before .before .before .before .before .before .before .before .before .before .before .before .before .before .before .before .before .before .loop-test .taken)
+loop-less c = omega (arith, c .before .before .before .before .before .before .before .before .before .before .before .before .before .before .before .before .before .before .before .before .loop-test .taken)
 
 loop-again : tie.Need-loop-again Inv-loop μ-loop
 loop-again c =
     let t = c .before .before .before .before .before .before .before .before in
-    let k = t .before .before .before .before .before .before in
+    let k = t .before .before .before .before .before .before .before in
     let p = k .before .before .before .before .before .before in
     stands-next _ _ _ _ _ _ _ _ (p .loop .inv) _ (found k) _ _ _ (t .receive-parts .ensures) _ (k .before .before .before .before .before .loop-test .taken) (c .before .before .before .before .put-answer .ensures)
 

@@ -19,7 +19,7 @@ same-length c = search needs
 returns : tie.Need-returns
 returns c =
     let p = c .before .before .before .before in
-    let m = p .before .before .before .before .before in
+    let m = p .before .before .before .before .before .before in
     rw (c .of-parts .ensures) (rw (m .marks-of .ensures) at (p .receive-parts .ensures))
 
 pub receive-spec : {M : Type 1} → statement M

@@ -46,7 +46,7 @@ same-length c = search needs
 returns-2 : tie.Need-returns-2
 returns-2 c =
     let r = c .before .before in
-    let i = r .before .before .before .before .before in
+    let i = r .before .before .before .before .before .before in
     let e = i .before .before .before in
     let h = e .before .before in
     gives-receives _ _ _ _ _ _ (ready-touch _ _ _ (ne-eqb _ 0 (h .before .if1 .left)) (h .read-header .ensures) _ (e .e2 .given .1) (i .if2 .taken))
@@ -68,7 +68,7 @@ same-length-2 c = search needs
 returns-4 : tie.Need-returns-4
 returns-4 c =
     let r = c .before .before in
-    let i = r .before .before .before .before .before in
+    let i = r .before .before .before .before .before .before in
     let e = i .before .before .before in
     let h = e .before .before in
     gives-receives _ _ _ _ _ _ (ready-dismiss _ _ _ (ne-eqb _ 0 (h .before .if1 .left)) (h .read-header .ensures) _ (e .e2 .given .1) (i .if2 .left))

@@ -13,24 +13,25 @@ use Rattle.house.specs.declared.Contact.{Contact}
 use Rattle.framing.specs.Frame.{Frame}
 use Rattle.touch.proofs.Passes.{frameBy}
 use Rattle.contacts.specs.Touch.{touchRules}
-use Rattle.contacts.specs.Ruling.{tableFrom, Counted}
+use Rattle.machine.specs.Machine.{inMode}
+use Rattle.contacts.specs.Ruling.{arraysFrom, Counted}
 use Rattle.runs.specs.Runs.{framesPassed, mostRecords}
 use Rattle.runs.proofs.Running.{Underway, underway-first, underway-next, underway-last}
 use Rattle.runs.proofs.run_frames.Statement.{statement}
 use Rattle.runs.proofs.run_frames.Tie as tie
 
 abbrev Inv-loop : tie.InvT-loop
-Inv-loop out₀ wet frames n untimed most running active states₀ xs₀ ys₀ run₀ pos₀ at₀ left₀ out states xs ys run pos at left =
+Inv-loop out₀ wet frames n untimed most running active states₀ xs₀ ys₀ held₀ run₀ pos₀ at₀ left₀ out states xs ys held run pos at left =
     (at ≤ length frames)
     × (pos ≤ length out)
     × (length out ≡ length out₀)
     × (framesPassed run + left ≤ 255)
     × (run .records + 65536 * left ≤ mostRecords)
     × ((fs : List (Frame Contact)) (end : List ℕ) → readSeries frameBy false n frames ≡ got fs end → Counted active states₀
-    → Underway (touchRules most) untimed wet frames (record { table = tableFrom states₀ xs₀ ys₀; running = running }) fs end out₀ run (tableFrom states xs ys) out pos at left)
+    → Underway (touchRules most) untimed wet frames (inMode running (arraysFrom states₀ xs₀ ys₀ held₀)) fs end out₀ run (arraysFrom states xs ys held) out pos at left)
 
 abbrev μ-loop : tie.MeasureT-loop
-μ-loop out₀ wet frames n untimed most running active states₀ xs₀ ys₀ run₀ pos₀ at₀ left₀ out states xs ys run pos at left = left
+μ-loop out₀ wet frames n untimed most running active states₀ xs₀ ys₀ held₀ run₀ pos₀ at₀ left₀ out states xs ys held run pos at left = left
 
 start-requires : tie.Need-start-requires Inv-loop μ-loop
 start-requires c κs = search needs
@@ -77,12 +78,12 @@ begins c =
     omega (arith, f .find-head .ensures .begins, p .loop .inv .0, n)
 
 ends : (c : tie.After-step Inv-loop μ-loop) →
-    let k = c .before .before .before .before .before .before in
+    let k = c .before .before .before .before .before .before .before in
     let f = k .before .before in
     let p = f .before .before .before in
     p .loop .at + f .find-head .result .contacts + c .step .result .end ≤ length (p .before .before .before .before .args .frames .now)
 ends c =
-    let k = c .before .before .before .before .before .before in
+    let k = c .before .before .before .before .before .before .before in
     let f = k .before .before in
     let p = f .before .before .before in
     let l = p .before .before .before .before .args .frames .now in
@@ -121,20 +122,20 @@ pass-requires : tie.Need-pass-requires Inv-loop μ-loop
 pass-requires c κs =
     let o = c .before .before .before in
     let s = o .before in
-    let p = s .before .before .before .before .before .before .before .before .before .before .before in
+    let p = s .before .before .before .before .before .before .before .before .before .before .before .before in
     (omega (arith, o .out .given .1, p .loop .inv .1), omega (arith, s .step .ensures .small))
 
 add-at-2 : tie.Need-add-at-2 Inv-loop μ-loop
 add-at-2 c =
     let s = c .before .before .before .before .before .before in
-    let k = s .before .before .before .before .before .before in
+    let k = s .before .before .before .before .before .before .before in
     omega (arith, begins k, ends s, short (k .before .before .before .before .before .before))
 
 -- a frame was left
 turning : (c : tie.After-struct-known3 Inv-loop μ-loop) →
-    let p = c .before .before .before .before .before .before .before .before .before .before .before .before .before .before .before .before .before in
+    let p = c .before .before .before .before .before .before .before .before .before .before .before .before .before .before .before .before .before .before in
     0 < p .loop .left
-turning c = c .before .before .before .before .before .before .before .before .before .before .before .before .before .before .before .before .loop-test .taken
+turning c = c .before .before .before .before .before .before .before .before .before .before .before .before .before .before .before .before .before .loop-test .taken
 
 sub-left : tie.Need-sub-left Inv-loop μ-loop
 sub-left c = omega (arith, turning c)
@@ -145,7 +146,7 @@ loop-less c = omega (arith, turning c)
 loop-again : tie.Need-loop-again Inv-loop μ-loop
 loop-again c =
     let s = c .before .before .before .before .before .before in
-    let d = s .before .before .before .before .before .before .before in
+    let d = s .before .before .before .before .before .before .before .before in
     let f = d .before in
     let i = f .before .before in
     let p = i .before in

@@ -8,6 +8,9 @@ use native.Mathlib.Omega.{arith}
 use lib.ListN.{length, drop}
 use Rattle.formats.specs.Answer.{skipped}
 use Rattle.formats.proofs.Steps.{step, stop, Stepped, series-end, series-got, series-bad}
+use Rattle.states.specs.Table.{next}
+use Rattle.machine.specs.Conforms.{moved}
+use Rattle.contacts.specs.Touch.{touchView}
 use Rattle.contacts.specs.Ruling.{source, contactsBy, tableFrom}
 use Rattle.moves.specs.Moves.{afterRead}
 use Rattle.moves.proofs.Moving.{read-end, read-bad, read-on, ends-got, ends-bad}
@@ -18,7 +21,7 @@ abbrev Inv-loop : tie.InvT-loop
 Inv-loop rest n recorded states₀ xs₀ ys₀ at₀ left₀ states xs ys at left =
     (at ≤ length rest)
     × (skipped (contactsBy (source recorded) left (drop at rest)) ≡ skipped (contactsBy (source recorded) n rest))
-    × (afterRead (source recorded) left (tableFrom states xs ys) (drop at rest) ≡ afterRead (source recorded) n (tableFrom states₀ xs₀ ys₀) rest)
+    × (afterRead (moved touchView next) (source recorded) left (tableFrom states xs ys) (drop at rest) ≡ afterRead (moved touchView next) (source recorded) n (tableFrom states₀ xs₀ ys₀) rest)
 
 abbrev μ-loop : tie.MeasureT-loop
 μ-loop rest n recorded states₀ xs₀ ys₀ at₀ left₀ states xs ys at left = left
@@ -61,7 +64,7 @@ returns c =
     let b = stop (source (a .recorded)) (a .rest .now) (p .loop .at) _ _ (rw (c .enum-told .given .1) at (r .read-contact .ensures)) in
     let h = r .before .before .loop-test .taken in
     record {
-      table = sym (read-bad (source (a .recorded)) _ (p .loop .left) _ _ h b) ∙ p .loop .inv .2;
+      table = sym (read-bad (moved touchView next) (source (a .recorded)) _ (p .loop .left) _ _ h b) ∙ p .loop .inv .2;
       passed = ends-bad (source (a .recorded)) (a .n) (a .rest .now) _ (sym (ap skipped (series-bad (λ b. source (a .recorded) .read) false (p .loop .left) _ _ h b)) ∙ p .loop .inv .1);
     }
 
@@ -85,7 +88,7 @@ loop-again c =
     let a = p .before .before .args in (
       this k .ends,
       sym (series-got (λ b. source (a .recorded) .read) false (p .loop .left) _ _ _ (r .before .before .loop-test .taken) (this k .reads)) ∙ p .loop .inv .1,
-      read-on (source (a .recorded)) _ _ (p .loop .left) (p .loop .at) _ (a .rest .now) _ (r .before .before .loop-test .taken) (this k) (c .move-contact .ensures)
+      read-on (moved touchView next) (source (a .recorded)) _ _ (p .loop .left) (p .loop .at) _ (a .rest .now) _ (r .before .before .loop-test .taken) (this k) (c .move-contact .ensures)
           ∙ p .loop .inv .2,
     )
 
@@ -94,7 +97,7 @@ returns-2 c =
     let p = c .before in
     let a = p .before .before .args in
     record {
-      table = sym (read-end (source (a .recorded)) _ (p .loop .left) _ (c .loop-test .left)) ∙ p .loop .inv .2;
+      table = sym (read-end (moved touchView next) (source (a .recorded)) _ (p .loop .left) _ (c .loop-test .left)) ∙ p .loop .inv .2;
       passed = ends-got (source (a .recorded)) (a .n) (a .rest .now) (p .loop .at) (sym (ap skipped (series-end (λ b. source (a .recorded) .read) false (p .loop .left) _ (c .loop-test .left))) ∙ p .loop .inv .1) (p .loop .inv .0);
     }
 

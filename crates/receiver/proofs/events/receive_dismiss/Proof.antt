@@ -21,6 +21,9 @@ enum-known-id c = search needs
 dismiss-requires : tie.Need-dismiss-requires
 dismiss-requires c κs = search needs
 
+forget-requires : tie.Need-forget-requires
+forget-requires c κs = search needs
+
 quiet-requires : tie.Need-quiet-requires
 quiet-requires c κs = search needs
 
@@ -34,9 +37,10 @@ same-length c = search needs
 
 returns-2 : tie.Need-returns-2
 returns-2 c =
-    let m = c .before .before .before .before in
+    let f = c .before .before in
+    let m = f .before .before .before .before in
     let e = m .before .before .before .before .before .before in
-    dismiss-taken _ _ _ (e .before .before .read-dismiss-body .ensures) _ _ _ _ _ _ (e .id .given .1) (m .dismiss .ensures) (turned-same _ _ _ (c .quiet .ensures))
+    dismiss-taken _ _ _ (e .before .before .read-dismiss-body .ensures) _ _ _ _ _ _ _ (e .id .given .1) (m .dismiss .ensures) (f .forget .ensures) (turned-same _ _ _ (c .quiet .ensures))
 
 pub receive-dismiss-spec : {M : Type 1} → statement M
 receive-dismiss-spec =
@@ -47,6 +51,7 @@ receive-dismiss-spec =
     refuse-requires
     enum-known-id
     dismiss-requires
+    forget-requires
     quiet-requires
     returns
     same-length

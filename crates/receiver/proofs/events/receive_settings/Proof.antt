@@ -2,7 +2,7 @@
 -- Assumes nothing.
 use borrow.Author.Needs.{needs}
 use mathlib.Core.Path.{ap}
-use Rattle.receiver.specs.Events.{ofParts}
+use Rattle.receiver.specs.Receive.{ofParts}
 use Rattle.receiver.specs.declared.Marks.{Marks}
 use Rattle.receiver.proofs.Answering.{turned-same}
 use Rattle.receiver.proofs.Bodies.{settings-refused, settings-taken}

@@ -21,7 +21,7 @@ same-length c = search needs
 returns : tie.Need-returns
 returns c =
     let o = c .before .before in
-    let i = o .before .before .before .before .before in
+    let i = o .before .before .before .before .before .before in
     settles-done _ _ _ _ _ _ (i .before .before .before .tally .ensures) _ _ (i .if1 .taken) (o .carry-out .ensures)
 
 refuse-requires : tie.Need-refuse-requires

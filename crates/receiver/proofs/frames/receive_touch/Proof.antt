@@ -66,7 +66,7 @@ same-length c = search needs
 returns-2 : tie.Need-returns-2
 returns-2 c =
     let o = c .before .before in
-    let i = o .before .before .before .before .before in
+    let i = o .before .before .before .before .before .before in
     let k = i .before .before .before in
     touch-ample _ _ _ (judging k .is-judged .ensures) _ _ _ _ (body-is k) _ (sym (i .before .is-ample .ensures) ∙ i .if1 .taken) (o .carry-out .ensures)
 
@@ -75,7 +75,7 @@ abbrev tight : tie.After-struct-known → tie.After-known-told
 tight c = c .before .before .before .before
 
 carry-counted-requires : tie.Need-carry-counted-requires
-carry-counted-requires c κs = sym (eq-eqb _ _ (c .before .before .before .before .if2 .taken))
+carry-counted-requires c κs = sym (eq-eqb _ _ (c .before .before .before .before .before .if2 .taken))
 
 same-length-2 : tie.Need-same-length-2
 same-length-2 c = search needs
@@ -83,11 +83,11 @@ same-length-2 c = search needs
 returns-3 : tie.Need-returns-3
 returns-3 c =
     let o = c .before .before in
-    let k = tight (o .before .before .before .before .before .before) in
+    let k = tight (o .before .before .before .before .before .before .before) in
     touch-settled _ _ _ (judging k .is-judged .ensures) _ _ _ _ (body-is k) _ (o .carry-counted .ensures)
 
 carry-counted-requires-2 : tie.Need-carry-counted-requires-2
-carry-counted-requires-2 c κs = sym (ne-eqb _ _ (c .before .before .before .before .if2 .left))
+carry-counted-requires-2 c κs = sym (ne-eqb _ _ (c .before .before .before .before .before .if2 .left))
 
 same-length-3 : tie.Need-same-length-3
 same-length-3 c = search needs
@@ -95,7 +95,7 @@ same-length-3 c = search needs
 returns-4 : tie.Need-returns-4
 returns-4 c =
     let o = c .before .before in
-    let k = tight (o .before .before .before .before .before .before) in
+    let k = tight (o .before .before .before .before .before .before .before) in
     touch-settled _ _ _ (judging k .is-judged .ensures) _ _ _ _ (body-is k) _ (o .carry-counted2 .ensures)
 
 pub receive-touch-spec : {M : Type 1} → statement M

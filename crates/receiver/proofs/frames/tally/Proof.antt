@@ -20,7 +20,7 @@ same-length c = search needs
 returns : tie.Need-returns
 returns c =
     let m = c .before .before in
-    let a = m .before .before .before .before .before .before .before in
+    let a = m .before .before .before .before .before .before .before .before .before in
     let u = a .before .before in
     tallies _ _ _ (u .is-untimed .ensures) _ (a .active-in .ensures) _ _ _ _ _ (rw (u .before .before .before .before .pre) at (m .run-frames .ensures))
 

@@ -12,6 +12,9 @@ use Rattle.formats.proofs.Steps.{series-end, series-got, series-bad}
 use Rattle.fields.specs.Integers.{taken}
 use Rattle.touch.specs.Touch.{contact}
 use Rattle.frame_records.proofs.Contacts.{Laying, laying-first, laying-one, laying-none, laying-next, laying-bad, laying-done}
+use Rattle.states.specs.Table.{next}
+use Rattle.machine.specs.Conforms.{moved}
+use Rattle.contacts.specs.Touch.{touchView}
 use Rattle.contacts.specs.Ruling.{contactsOf, tableFrom}
 use Rattle.moves.specs.Moves.{afterRead}
 use Rattle.moves.proofs.Moving.{read-end, read-bad, read-on, ends-got, ends-bad}
@@ -22,7 +25,7 @@ abbrev Inv-loop : tie.InvT-loop
 Inv-loop out₀ rest n states₀ xs₀ ys₀ pos₀ at₀ left₀ out states xs ys pos at left =
     Laying n rest out₀ out pos at left
     × (skipped (contactsOf left (drop at rest)) ≡ skipped (contactsOf n rest))
-    × (afterRead (contact taken) left (tableFrom states xs ys) (drop at rest) ≡ afterRead (contact taken) n (tableFrom states₀ xs₀ ys₀) rest)
+    × (afterRead (moved touchView next) (contact taken) left (tableFrom states xs ys) (drop at rest) ≡ afterRead (moved touchView next) (contact taken) n (tableFrom states₀ xs₀ ys₀) rest)
 
 abbrev μ-loop : tie.MeasureT-loop
 μ-loop out₀ rest n states₀ xs₀ ys₀ pos₀ at₀ left₀ out states xs ys pos at left = left
@@ -67,7 +70,7 @@ returns c =
     let b = laying-none _ _ _ _ _ _ _ (p .loop .inv .0) _ (r .read-contact .ensures) _ (c .enum-told .given .1) in
     record {
       table = record {
-        table = sym (read-bad (contact taken) _ (p .loop .left) _ _ h b) ∙ p .loop .inv .2;
+        table = sym (read-bad (moved touchView next) (contact taken) _ (p .loop .left) _ _ h b) ∙ p .loop .inv .2;
         passed = ends-bad (contact taken) (a .n) (a .rest .now) _ (sym (ap skipped (series-bad (λ b. contact taken .read) false (p .loop .left) _ _ h b)) ∙ p .loop .inv .1);
       };
       output = laying-bad _ _ _ _ _ _ _ (p .loop .inv .0) _ h b;
@@ -113,7 +116,7 @@ loop-again c =
     let one = laying-one _ _ _ _ _ _ _ (p .loop .inv .0) _ (r .read-contact .ensures) _ _ (g .before .got .given .1) in (
       laying-next _ _ _ _ _ _ _ (p .loop .inv .0) _ _ _ _ h one (w .write-contact .ensures),
       sym (series-got (λ b. contact taken .read) false (p .loop .left) _ _ _ h (one .reads)) ∙ p .loop .inv .1,
-      read-on (contact taken) _ _ (p .loop .left) (p .loop .at) _ (p .before .before .before .args .rest .now) _ h one (c .move-contact .ensures) ∙ p .loop .inv .2,
+      read-on (moved touchView next) (contact taken) _ _ (p .loop .left) (p .loop .at) _ (p .before .before .before .args .rest .now) _ h one (c .move-contact .ensures) ∙ p .loop .inv .2,
     )
 
 same-length-2 : tie.Need-same-length-2 Inv-loop μ-loop
@@ -126,7 +129,7 @@ returns-2 c =
     let h = c .loop-test .left in
     record {
       table = record {
-        table = sym (read-end (contact taken) _ (p .loop .left) _ h) ∙ p .loop .inv .2;
+        table = sym (read-end (moved touchView next) (contact taken) _ (p .loop .left) _ h) ∙ p .loop .inv .2;
         passed = ends-got (contact taken) (a .n) (a .rest .now) (p .loop .at) (sym (ap skipped (series-end (λ b. contact taken .read) false (p .loop .left) _ h)) ∙ p .loop .inv .1) (p .loop .inv .0 .inside);
       };
       output = laying-done _ _ _ _ _ _ _ (p .loop .inv .0) h;

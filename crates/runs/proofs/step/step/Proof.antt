@@ -6,6 +6,9 @@ use Rattle.runs.proofs.Stepping.{steps-injected, steps-ignored, steps-c
 use Rattle.runs.proofs.step.step.Statement.{statement}
 use Rattle.runs.proofs.step.step.Tie as tie
 
+cast-n : tie.Need-cast-n
+cast-n c = search needs
+
 ruling-on-requires : tie.Need-ruling-on-requires
 ruling-on-requires c κs = search needs
 
@@ -21,23 +24,11 @@ enum-told c = search needs
 ignore-requires : tie.Need-ignore-requires
 ignore-requires c κs = search needs
 
-cast-skip : tie.Need-cast-skip
-cast-skip c = search needs
-
-skip-requires : tie.Need-skip-requires
-skip-requires c κs = search needs
-
 enum-told-2 : tie.Need-enum-told-2
 enum-told-2 c = search needs
 
 cancel-requires : tie.Need-cancel-requires
 cancel-requires c κs = search needs
-
-cast-skip-2 : tie.Need-cast-skip-2
-cast-skip-2 c = search needs
-
-skip-requires-2 : tie.Need-skip-requires-2
-skip-requires-2 c κs = search needs
 
 same-length : tie.Need-same-length
 same-length c = search needs
@@ -45,41 +36,35 @@ same-length c = search needs
 returns : tie.Need-returns
 returns c =
     let i = c .before .before in
-    let k = i .before .before .before .before .before .before in
-    let v = k .before .before in
-    steps-injected _ _ _ _ _ _ _ _ _ _ _ (λ a. sym (k .ruling .given .1) ∙ v .ruling-on .ensures a) (i .inject .ensures)
+    let k = i .before .before .before .before .before .before .before in
+    steps-injected _ _ _ _ _ _ _ _ _ _ _ (λ a. sym (k .ruling .given .1) ∙ k .before .before .ruling-on .ensures a) (i .inject .ensures)
 
 returns-2 : tie.Need-returns-2
 returns-2 c =
-    let i = c .before .before in
-    let v = i .before .before .before in
-    steps-ignored _ _ _ _ _ _ _ _ _ (λ a. sym (i .before .enum-told .given .1) ∙ v .ruling-on .ensures a) (i .ignore .ensures) (c .skip .ensures)
+    let k = c .before .before in
+    steps-ignored _ _ _ _ _ _ _ _ _ (λ a. sym (k .enum-told .given .1) ∙ k .before .before .ruling-on .ensures a) (c .ignore .ensures)
 
 same-length-2 : tie.Need-same-length-2
 same-length-2 c = search needs
 
 returns-3 : tie.Need-returns-3
 returns-3 c =
-    let i = c .before .before .before .before in
-    let k = i .before .before .before .before .before in
-    let v = k .before .before in
-    steps-cancelled _ _ _ _ _ _ _ _ _ _ _ (λ a. sym (k .enum-told2 .given .1) ∙ v .ruling-on .ensures a) (i .cancel .ensures) (c .skip2 .ensures)
+    let i = c .before .before in
+    let k = i .before .before .before .before .before .before in
+    steps-cancelled _ _ _ _ _ _ _ _ _ _ (λ a. sym (k .enum-told2 .given .1) ∙ k .before .before .ruling-on .ensures a) (i .cancel .ensures)
 
 pub step-spec : {M : Type 1} → statement M
 step-spec =
     tie.close
     (tie.spec
+    cast-n
     ruling-on-requires
     enum-known-ruling
     inject-requires
     enum-told
     ignore-requires
-    cast-skip
-    skip-requires
     enum-told-2
     cancel-requires
-    cast-skip-2
-    skip-requires-2
     same-length
     returns
     returns-2

@@ -1,7 +1,6 @@
--- `contacts::rules::all_down` meets its contract. The loop keeps: the contacts that are left pass where all of them do.
+-- `openings::opening::all_pass` meets its contract. The loop keeps: the contacts that are left pass where all of them do.
 -- Assumes nothing.
 use borrow.Author.Needs.{needs}
-use borrow.Author.Tests.{eq-eqb, ne-eqb}
 use Prim.Native.Nat.{_≤_, _+_}
 use mathlib.Core.Path.{_≡_, refl, sym, _∙_}
 use mathlib.Core.Bool.{false}
@@ -11,20 +10,19 @@ use Rattle.formats.proofs.Steps.{step, stop, Stepped}
 use Rattle.fields.specs.Integers.{taken}
 use Rattle.touch.specs.Touch.{contact}
 use Rattle.machine.specs.Conforms.{every}
-use Rattle.machine.specs.Machine.{isDown}
-use Rattle.contacts.specs.Touch.{touchView}
 use Rattle.contacts.specs.Ruling.{contactsOf, ofRead}
 use Rattle.machine.proofs.Conforms.{every-on, every-off}
 use Rattle.contacts.proofs.Reading.{read-end, read-bad, read-on, read-off}
-use Rattle.contacts.proofs.rules.all_down.Statement.{statement}
-use Rattle.contacts.proofs.rules.all_down.Tie as tie
+use Rattle.openings.specs.Openings.{passesBy}
+use Rattle.openings.proofs.opening.all_pass.Statement.{statement}
+use Rattle.openings.proofs.opening.all_pass.Tie as tie
 
 abbrev Inv-loop : tie.InvT-loop
-Inv-loop rest n at₀ left₀ at left =
-    (at ≤ length rest) × (ofRead false (every (isDown touchView)) (contactsOf left (drop at rest)) ≡ ofRead false (every (isDown touchView)) (contactsOf n rest))
+Inv-loop rest n hovers held at₀ left₀ at left =
+    (at ≤ length rest) × (ofRead false (every (passesBy hovers held)) (contactsOf left (drop at rest)) ≡ ofRead false (every (passesBy hovers held)) (contactsOf n rest))
 
 abbrev μ-loop : tie.MeasureT-loop
-μ-loop rest n at₀ left₀ at left = left
+μ-loop rest n hovers held at₀ left₀ at left = left
 
 -- the contact of this turn
 this : (c : tie.After-known-told Inv-loop μ-loop) →
@@ -62,7 +60,10 @@ returns c =
     let p = r .before .before .before in
     let a = p .before .before .args in
     let b = stop (contact taken) (a .rest .now) (p .loop .at) _ _ (rw (c .enum-told .given .1) at (r .read-contact .ensures)) in
-    sym (read-bad (contact taken) false (every (isDown touchView)) (p .loop .left) _ _ (r .before .before .loop-test .taken) b) ∙ p .loop .inv .1
+    sym (read-bad (contact taken) false (every (passesBy (a .hovers) (a .held .now))) (p .loop .left) _ _ (r .before .before .loop-test .taken) b) ∙ p .loop .inv .1
+
+passes-requires : tie.Need-passes-requires Inv-loop μ-loop
+passes-requires c κs = search needs
 
 add-at : tie.Need-add-at Inv-loop μ-loop
 add-at c = omega (arith, this (c .before .before) .ends)
@@ -79,8 +80,8 @@ loop-again c =
     let r = k .before .before .before in
     let p = r .before .before .before in
     let a = p .before .before .args in
-    let on = every-on (isDown touchView) (k .before .got .given .0 .0) (eq-eqb _ _ (c .if1 .taken)) in
-    (this k .ends, sym (read-on (contact taken) false (every (isDown touchView)) (every (isDown touchView)) (p .loop .left) (p .loop .at) _ (a .rest .now) _ (r .before .before .loop-test .taken) (this k) on) ∙ p .loop .inv .1)
+    let on = every-on (passesBy (a .hovers) (a .held .now)) (k .before .got .given .0 .0) (sym (c .before .passes .ensures) ∙ c .if1 .taken) in
+    (this k .ends, sym (read-on (contact taken) false (every (passesBy (a .hovers) (a .held .now))) (every (passesBy (a .hovers) (a .held .now))) (p .loop .left) (p .loop .at) _ (a .rest .now) _ (r .before .before .loop-test .taken) (this k) on) ∙ p .loop .inv .1)
 
 returns-2 : tie.Need-returns-2 Inv-loop μ-loop
 returns-2 c =
@@ -88,18 +89,18 @@ returns-2 c =
     let r = k .before .before .before in
     let p = r .before .before .before in
     let a = p .before .before .args in
-    let off = every-off (isDown touchView) (k .before .got .given .0 .0) (ne-eqb _ _ (c .if1 .left)) in
-    sym (read-off (contact taken) false (every (isDown touchView)) (p .loop .left) (p .loop .at) _ (a .rest .now) _ (r .before .before .loop-test .taken) (this k) off) ∙ p .loop .inv .1
+    let off = every-off (passesBy (a .hovers) (a .held .now)) (k .before .got .given .0 .0) (sym (c .before .passes .ensures) ∙ c .if1 .left) in
+    sym (read-off (contact taken) false (every (passesBy (a .hovers) (a .held .now))) (p .loop .left) (p .loop .at) _ (a .rest .now) _ (r .before .before .loop-test .taken) (this k) off) ∙ p .loop .inv .1
 
 returns-3 : tie.Need-returns-3 Inv-loop μ-loop
 unfolding every
 returns-3 c =
     let p = c .before in
     let a = p .before .before .args in
-    sym (read-end (contact taken) false (every (isDown touchView)) (p .loop .left) _ (c .loop-test .left)) ∙ p .loop .inv .1
+    sym (read-end (contact taken) false (every (passesBy (a .hovers) (a .held .now))) (p .loop .left) _ (c .loop-test .left)) ∙ p .loop .inv .1
 
-pub all-down-spec : {M : Type 1} → statement M
-all-down-spec =
+pub all-pass-spec : {M : Type 1} → statement M
+all-pass-spec =
     tie.close
     (tie.spec
     Inv-loop
@@ -112,6 +113,7 @@ all-down-spec =
     enum-known-got
     enum-told
     returns
+    passes-requires
     add-at
     sub-left
     loop-less

@@ -1,8 +1,8 @@
--- `contacts::judging::is_judged` meets its contract.
+-- `openings::opening::is_judged` meets its contract.
 -- Assumes nothing.
 use borrow.Author.Needs.{needs}
-use Rattle.contacts.proofs.judging.is_judged.Statement.{statement}
-use Rattle.contacts.proofs.judging.is_judged.Tie as tie
+use Rattle.openings.proofs.opening.is_judged.Statement.{statement}
+use Rattle.openings.proofs.opening.is_judged.Tie as tie
 
 returns : tie.Need-returns
 returns c = rw (c .if1 .taken)

@@ -1,0 +1,24 @@
+-- `runs::step::ruling_on` meets its contract.
+-- Assumes nothing.
+use borrow.Author.Needs.{needs}
+use Rattle.contacts.specs.Touch.{touchRules}
+use Rattle.contacts.specs.Ruling.{contactsOf, arraysFrom}
+use Rattle.runs.specs.Runs.{machineIn}
+use Rattle.runs.proofs.Stepping.{ruled-on}
+use Rattle.runs.proofs.step.ruling_on.Statement.{statement}
+use Rattle.runs.proofs.step.ruling_on.Tie as tie
+
+is-judged-requires : tie.Need-is-judged-requires
+is-judged-requires c κs = search needs
+
+verdict-of-requires : tie.Need-verdict-of-requires
+verdict-of-requires c κs = search needs
+
+returns : tie.Need-returns
+returns c =
+    let a = c .before .before .before .args in
+    ruled-on (touchRules (a .most)) (machineIn (a .run) (arraysFrom (a .states .now) (a .xs .now) (a .ys .now) (a .held .now))) (a .run .active) (contactsOf (a .n) (a .rest .now)) _ _
+    (c .before .is-judged .ensures) (c .verdict-of .ensures)
+
+pub ruling-on-spec : {M : Type 1} → statement M
+ruling-on-spec = tie.close (tie.spec is-judged-requires verdict-of-requires returns)

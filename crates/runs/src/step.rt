@@ -98,7 +98,7 @@ fn ignore(run: Run) -> Run
 fn skip(rest: &[u8], n: usize) -> usize
     ensures { λ r. ⌜ Ends (contact taken) n (now (rest .entry)) r ⌝ }
 {
-    match touch::skip_contacts(rest, n, false) {
+    match touch_frames::skip_contacts(rest, n, false) {
         End::At(end) => end,
         End::Refused(_) => 0,
     }

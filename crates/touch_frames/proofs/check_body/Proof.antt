@@ -1,4 +1,4 @@
--- `touch::frames::check_body` meets its contract: a head, as many frames as it says, and no byte behind them.
+-- `touch_frames::check_body` meets its contract: a head, as many frames as it says, and no byte behind them.
 -- Assumes nothing.
 use borrow.Author.Needs.{needs}
 use Prim.Native.Nat.{ℕ, _+_}
@@ -15,12 +15,12 @@ use Rattle.formats.proofs.Steps.{step, stop, Stepped, ended-bad, ended-got}
 use Rattle.fields.specs.Integers.{Integers, takenBy}
 use Rattle.framing.specs.Format.{bodyFormat, summary}
 use Rattle.framing.specs.declared.BodyHead.{BodyHead}
 use Rattle.touch.specs.Touch.{frame, touchHead, body, contact}
 use Rattle.touch.proofs.Reading.{first}
 use Rattle.framing.proofs.Reading.{body-end}
 use Rattle.touch.specs.Limits.{touchLimits}
-use Rattle.touch.proofs.frames.check_body.Statement.{statement}
-use Rattle.touch.proofs.frames.check_body.Tie as tie
+use Rattle.touch_frames.proofs.check_body.Statement.{statement}
+use Rattle.touch_frames.proofs.check_body.Tie as tie
 
 -- what is lent, the head, and where the frames begin and end
 abbrev lent : tie.After-known-told → List ℕ

@@ -1,4 +1,4 @@
--- `touch::frames::skip_frames` meets its contract. The loop keeps: what is left, read from at on, ends where the whole ends.
+-- `touch_frames::skip_frames` meets its contract. The loop keeps: what is left, read from at on, ends where the whole ends.
 -- Assumes nothing.
 use borrow.Author.Needs.{needs}
 use Prim.Native.Nat.{_≤_, _+_}
@@ -9,9 +9,9 @@ use Rattle.formats.specs.Format.{readSeries}
 use Rattle.formats.specs.Answer.{skip, skipped}
 use Rattle.formats.proofs.Steps.{step, stop, Stepped, series-end, series-got, series-bad, series-skip}
 use Rattle.fields.specs.Integers.{takenBy}
 use Rattle.touch.specs.Touch.{frame}
-use Rattle.touch.proofs.frames.skip_frames.Statement.{statement}
-use Rattle.touch.proofs.frames.skip_frames.Tie as tie
+use Rattle.touch_frames.proofs.skip_frames.Statement.{statement}
+use Rattle.touch_frames.proofs.skip_frames.Tie as tie
 
 abbrev Inv-loop : tie.InvT-loop
 Inv-loop rest n judged strictly at₀ left₀ first₀ at left first =

@@ -1,4 +1,4 @@
--- `touch::frames::read_count` meets its contract: an integer and a test of its value.
+-- `touch_frames::read_count` meets its contract: an integer and a test of its value.
 -- Assumes nothing.
 use borrow.Author.Needs.{needs}
 use borrow.Author.Tests.{le-leb, lt-leb}
@@ -7,9 +7,9 @@ use denote.Ref.{now}
 use lib.Dec.{leb}
 use Rattle.paper.specs.Refusals.{badCount}
 use Rattle.integers.specs.Answer.{u2Of}
 use Rattle.touch.proofs.Reading.{test-before, test-holds, test-fails}
-use Rattle.touch.proofs.frames.read_count.Statement.{statement}
-use Rattle.touch.proofs.frames.read_count.Tie as tie
+use Rattle.touch_frames.proofs.read_count.Statement.{statement}
+use Rattle.touch_frames.proofs.read_count.Tie as tie
 
 read-u2-by-requires : tie.Need-read-u2-by-requires
 read-u2-by-requires c κs = search needs

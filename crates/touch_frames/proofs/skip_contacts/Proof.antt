@@ -1,4 +1,4 @@
--- `touch::frames::skip_contacts` meets its contract. The loop keeps: what is left, read from at on, ends where the whole ends.
+-- `touch_frames::skip_contacts` meets its contract. The loop keeps: what is left, read from at on, ends where the whole ends.
 -- Assumes nothing.
 use borrow.Author.Needs.{needs}
 use Prim.Native.Nat.{_≤_, _+_}
@@ -10,9 +10,9 @@ use Rattle.formats.specs.Format.{readSeries}
 use Rattle.formats.specs.Answer.{skipped}
 use Rattle.formats.proofs.Steps.{step, stop, Stepped, series-end, series-got, series-bad}
 use Rattle.fields.specs.Integers.{takenBy}
 use Rattle.touch.specs.Touch.{contact}
-use Rattle.touch.proofs.frames.skip_contacts.Statement.{statement}
-use Rattle.touch.proofs.frames.skip_contacts.Tie as tie
+use Rattle.touch_frames.proofs.skip_contacts.Statement.{statement}
+use Rattle.touch_frames.proofs.skip_contacts.Tie as tie
 
 abbrev Inv-loop : tie.InvT-loop
 Inv-loop rest n strictly at₀ left₀ at left =

@@ -1,4 +1,4 @@
--- `touch::frames::read_frame_head` meets its contract: a count and an offset.
+-- `touch_frames::read_frame_head` meets its contract: a count and an offset.
 -- Assumes nothing.
 use borrow.Author.Needs.{needs}
 use Prim.Native.Nat.{ℕ, _+_}
@@ -9,11 +9,11 @@ use denote.Ref.{now}
 use mathlib.Core.Bool.{Bool}
 use Rattle.formats.proofs.Steps.{step, stop, Stepped}
 use Rattle.fields.specs.Integers.{Integers, takenBy}
 use Rattle.touch.specs.Limits.{mostContacts}
 use Rattle.framing.specs.Format.{frameHeadFormat, countTo, offset}
 use Rattle.touch.proofs.Reading.{first}
-use Rattle.touch.proofs.frames.read_frame_head.Statement.{statement}
-use Rattle.touch.proofs.frames.read_frame_head.Tie as tie
+use Rattle.touch_frames.proofs.read_frame_head.Statement.{statement}
+use Rattle.touch_frames.proofs.read_frame_head.Tie as tie
 
 -- what is lent, and where the offset and the head's end are
 abbrev lent : tie.After-known-told → List ℕ

@@ -1,12 +1,4 @@
-// Frames and the whole body: where they end, or the first fault.
-use crate::CONTACTS_MOST;
-use crate::CheckedBody;
-use crate::End;
-use crate::FRAMES_MOST;
-use crate::ReadContact;
-use crate::ReadHead;
-use crate::ReadTouchHead;
-use crate::contact::read_contact;
+// Frames and the whole body of a touch message: where they end, or the first fault.
 use framing::BodyHead;
 use house::Head;
 use integers::ReadU2;
@@ -14,14 +6,24 @@ use integers::ReadU4;
 use integers::ReadU8;
 use paper::Microseconds;
 use paper::Milliseconds;
+use touch::CheckedBody;
+use touch::End;
+use touch::ReadContact;
+use touch::ReadHead;
+use touch::ReadTouchHead;
 ghost use Rattle.formats.specs.Answer.{Answers, skip};
 ghost use Rattle.formats.specs.Format.{series, times};
 ghost use Rattle.fields.specs.Integers.{takenBy};
 ghost use Rattle.fields.specs.Answer.{lengthOf, u2Got, u8Got};
 ghost use Rattle.integers.specs.Answer.{u2Of, u8Of};
 ghost use Rattle.framing.specs.Format.{countTo, offset};
 ghost use Rattle.touch.specs.Touch.{contact, frameHead, frame, touchHead};
 ghost use Rattle.touch.specs.Answer.{headGot, headLength, touchHeadGot, touchHeadLength, endGot, endLength, Checks};
+
+// The most frames of a message, and the most contacts of a frame.
+pub const FRAMES_MOST: u16 = 64;
+
+pub const CONTACTS_MOST: u16 = 63;
 
 // contactCount and frameCount: at most so many.
 fn read_count(rest: &[u8], most: u16, strictly: bool) -> ReadU2
@@ -80,7 +82,7 @@ pub fn skip_contacts(rest: &[u8], n: usize, strictly: bool) -> End
     let mut at: usize = 0;
     let mut left = n;
     while 0 < left {
-        let got = read_contact(&rest[at..], strictly);
+        let got = touch::read_contact(&rest[at..], strictly);
         let ReadContact::Value(_, k) = got else {
             return End::Refused(got.refusal());
         };

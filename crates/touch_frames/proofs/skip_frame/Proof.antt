@@ -1,4 +1,4 @@
--- `touch::frames::skip_frame` meets its contract: a head and as many contacts as it says.
+-- `touch_frames::skip_frame` meets its contract: a head and as many contacts as it says.
 -- Assumes nothing.
 use borrow.Author.Needs.{needs}
 use Prim.Native.Nat.{ℕ, _+_}
@@ -13,12 +13,12 @@ use Rattle.formats.proofs.Steps.{step, stop, Stepped}
 use Rattle.fields.specs.Integers.{Integers, takenBy}
 use Rattle.framing.specs.Format.{frameFormat}
 use Rattle.house.specs.declared.Head.{Head}
 use Rattle.touch.specs.Touch.{contact, frameHead}
 use Rattle.touch.proofs.Reading.{first}
 use Rattle.framing.proofs.Reading.{frame-end}
 use Rattle.touch.specs.Limits.{touchLimits}
-use Rattle.touch.proofs.frames.skip_frame.Statement.{statement}
-use Rattle.touch.proofs.frames.skip_frame.Tie as tie
+use Rattle.touch_frames.proofs.skip_frame.Statement.{statement}
+use Rattle.touch_frames.proofs.skip_frame.Tie as tie
 
 -- what is lent, the head, and where the contacts begin and end
 abbrev lent : tie.After-known-told → List ℕ

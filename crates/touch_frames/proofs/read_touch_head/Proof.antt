@@ -1,4 +1,4 @@
--- `touch::frames::read_touch_head` meets its contract: a time and a count.
+-- `touch_frames::read_touch_head` meets its contract: a time and a count.
 -- Assumes nothing.
 use borrow.Author.Needs.{needs}
 use Prim.Native.Nat.{ℕ, _+_}
@@ -13,10 +13,10 @@ use Rattle.formats.proofs.Steps.{step, stop, Stepped}
 use Rattle.fields.specs.Integers.{Integers, takenBy}
 use Rattle.fields.proofs.Answers.{u4-answers}
 use Rattle.framing.specs.Format.{bodyHeadFormat, countTo}
 use Rattle.touch.specs.Limits.{mostFrames}
 use Rattle.touch.proofs.Reading.{first, passed}
-use Rattle.touch.proofs.frames.read_touch_head.Statement.{statement}
-use Rattle.touch.proofs.frames.read_touch_head.Tie as tie
+use Rattle.touch_frames.proofs.read_touch_head.Statement.{statement}
+use Rattle.touch_frames.proofs.read_touch_head.Tie as tie
 
 -- what is lent, and where the count and the head's end are
 abbrev lent : tie.After-known-told → List ℕ

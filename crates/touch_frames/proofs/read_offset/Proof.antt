@@ -1,4 +1,4 @@
--- `touch::frames::read_offset` meets its contract: an integer, and where it is judged a test of its value.
+-- `touch_frames::read_offset` meets its contract: an integer, and where it is judged a test of its value.
 -- Assumes nothing.
 use borrow.Author.Needs.{needs}
 use borrow.Author.Tests.{eq-eqb, ne-eqb}
@@ -19,9 +19,9 @@ use Rattle.integers.specs.declared.ReadU8.{ReadU8}
 use Rattle.integers.specs.declared.ReadU8.the-variants as U8
 use Rattle.fields.proofs.Answers.{u8-answers}
 use Rattle.framing.specs.Format.{offset}
 use Rattle.touch.proofs.Reading.{test-before, test-holds, test-fails}
-use Rattle.touch.proofs.frames.read_offset.Statement.{statement}
-use Rattle.touch.proofs.frames.read_offset.Tie as tie
+use Rattle.touch_frames.proofs.read_offset.Statement.{statement}
+use Rattle.touch_frames.proofs.read_offset.Tie as tie
 
 -- the answer, judged or not
 told : (strictly b d : Bool) (l : List ℕ) (x : Got ℕ) (n : ℕ) → b ≡ d → Answers (offset (takenBy strictly) d) l x n → Answers (offset (takenBy strictly) b) l x n

@@ -57,9 +57,9 @@ use Rattle.receiver.proofs.Fitting.{body-read}
 use Rattle.receiver.proofs.Lawful.{OneOfThree, PlaceFits, bare-fits, touch-law}
 use Rattle.receiver.proofs.Invariants.{Kept, message-read, frames-fit}
 use Rattle.receiver.proofs.Streaming.{bytes-touched}
-use Rattle.kangirlo.specs.Flat.{flattened, flat}
-use Rattle.kangirlo.specs.Flat as flat-record
-use Rattle.kangirlo.specs.declared.FlatRecord.{FlatRecord}
+use Rattle.flat_records.specs.Flat.{flattened, flat}
+use Rattle.flat_records.specs.Flat as flat-record
+use Rattle.flat_records.specs.declared.FlatRecord.{FlatRecord}
 use Rattle.demands.specs.Whole.{WritesWholeFrames}
 use Rattle.demands.proofs.RoundTrip.{judged as reading-judged, read-front}
 use Rattle.demands.specs.RoundTrip.{Refused, recordsRead}

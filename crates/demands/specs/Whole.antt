@@ -12,8 +12,8 @@ use Rattle.framing.specs.Whole.{FramesWhole}
 use Rattle.reading.specs.Plain.{ReadsBy}
 use Rattle.reading.specs.declared.PlainAnswer.{PlainAnswer}
 use Rattle.receiver.specs.Receive.{fresh}
-use Rattle.kangirlo.specs.Flat.{flat}
-use Rattle.kangirlo.specs.declared.FlatRecord.{FlatRecord}
+use Rattle.flat_records.specs.Flat.{flat}
+use Rattle.flat_records.specs.declared.FlatRecord.{FlatRecord}
 use Rattle.demands.specs.RoundTrip.{recordsRead}
 use Rattle.demands.specs.Histories.{Call, Calls, History, last, recordsLeft}
 

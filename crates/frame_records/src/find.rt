@@ -27,11 +27,11 @@ fn none() -> FoundFrame
 pub fn find_frame(rest: &[u8]) -> FoundFrame
     ensures { λ r. ⌜ FindsFrame (now (rest .entry)) r ⌝ }
 {
-    let got_head = touch::read_frame_head(rest, false, false);
+    let got_head = touch_frames::read_frame_head(rest, false, false);
     let ReadHead::Value(head, at) = got_head else {
         return none();
     };
-    let got_end = touch::skip_contacts(&rest[at..], head.count as usize, false);
+    let got_end = touch_frames::skip_contacts(&rest[at..], head.count as usize, false);
     let End::At(n) = got_end else {
         return none();
     };
@@ -46,7 +46,7 @@ pub fn find_frame(rest: &[u8]) -> FoundFrame
 pub fn find_head(rest: &[u8]) -> FoundHead
     ensures { λ r. ⌜ FindsHead (now (rest .entry)) r ⌝ }
 {
-    let got = touch::read_frame_head(rest, false, false);
+    let got = touch_frames::read_frame_head(rest, false, false);
     let ReadHead::Value(head, at) = got else {
         let missing = none();
         let head = missing.head;

@@ -1,7 +1,7 @@
 -- Two outcomes that the contract of a call allows are equal: in its answer, in the receiver that it was lent, in the list of answers and in the output.
 -- Assumes nothing.
 use Prim.Native.Nat.{ℕ}
-use mathlib.Core.Path.{_≡_, sym, _∙_}
+use mathlib.Core.Path.{_≡_}
 use mathlib.Core.Bool.{true, false}
 use mathlib.Core.List.{List}
 use Rattle.paper.specs.declared.Milliseconds.{Milliseconds}
@@ -25,8 +25,9 @@ use Rattle.bursts.specs.Batch.{ReceivesAll}
 use Rattle.bursts.specs.declared.Batch.{Batch}
 use Rattle.bursts.specs.declared.BatchTurn.{BatchTurn}
 use Rattle.bursts.proofs.Unique.{Same as SameBatch, receive-all-unique, receive-all-parts-unique}
-use Rattle.kangirlo.specs.Flat.{flat}
-use Rattle.kangirlo.specs.declared.FlatRecord.{FlatRecord}
+use Rattle.flat_records.specs.Flat.{flat}
+use Rattle.flat_records.specs.declared.FlatRecord.{FlatRecord}
+use Rattle.flat_records.proofs.Unique.{read-flat-unique}
 
 -- what a writer of the draft d answers and leaves
 abbrev One : Draft → Type 0
@@ -71,5 +72,5 @@ calls-unique =
       kangirlo-write-suspend = writers-unique .write-suspend;
       kangirlo-write-resume = writers-unique .write-resume;
       kangirlo-write-dismiss = writers-unique .write-dismiss;
-      kangirlo-read-record = λ records a b e f. e ∙ sym f;
+      kangirlo-read-record = read-flat-unique;
     }

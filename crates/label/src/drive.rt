@@ -21,7 +21,7 @@ pub(crate) fn drive(
     let mut tally = presses::begin(from);
     while tally.at < records.len() {
         let hit = hit_at(buttons, records, tally.at);
-        tally = presses::go_on(states, pressed, tally, hit, records, choices, writing);
+        tally = press_turns::go_on(states, pressed, tally, hit, records, choices, writing);
     }
     tally
 }

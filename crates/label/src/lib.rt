@@ -60,7 +60,7 @@ pub extern "C" fn kangirlo_choose_parts(
         choices,
         false,
     );
-    let refusal = presses::rule(*states, records, tried.count, numbers);
+    let refusal = taken_records::rule(*states, records, tried.count, numbers);
     let start = presses::writing_from(refusal, bytes);
     let run = drive::drive(states, pressed, start, buttons, records, choices, true);
     presses::conclude(refusal, run)

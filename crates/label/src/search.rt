@@ -59,7 +59,7 @@ fn hit_of(buttons: &[Button], place: usize) -> Hit
 pub(crate) fn hit_at(buttons: &[Button], records: &[u8], at: usize) -> Hit
     ensures { λ r. ⌜ r ≡ hitAt (hitIn (now (buttons .entry))) (now (records .entry)) at ⌝ }
 {
-    let look = presses::look_at(records, at);
+    let look = press_turns::look_at(records, at);
     if look.due {
         let place = crate::kangirlo_button_at(buttons, look.point.x, look.point.y);
         hit_of(buttons, place)

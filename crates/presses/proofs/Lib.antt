@@ -1,5 +1,3 @@
-pub mod Judging
-pub mod Turns
 pub mod Driving
 pub mod Putting
 pub mod Concluding

@@ -1,29 +1,14 @@
--- Two outcomes that a contract allows are equal. (Every other call's contract is an equation of its result.)
+-- Two outcomes that the contract of a call that chooses allows are equal. (The contract of each call of this crate is an equation of its result.)
 -- Assumes nothing.
 use Prim.Native.Nat.{ℕ}
 use mathlib.Core.Path.{_≡_, sym, _∙_}
-use mathlib.Core.Bool.{Bool}
 use mathlib.Core.List.{List}
 use Rattle.house.specs.declared.Point.{Point}
 use Rattle.presses.specs.declared.Hit.{Hit}
-use Rattle.presses.specs.declared.Tally.{Tally}
 use Rattle.presses.specs.declared.Label.{Label}
 use Rattle.presses.specs.declared.Chosen.{Chosen}
 use Rattle.presses.specs.Choosing.{Chooses}
-use Rattle.presses.specs.Turns.{Went, wentTo, wentOn}
 
--- of `go_on`: the tally that is answered, what is kept, and the list of choices
-pub go-on-unique : (h : Hit) (l : List ℕ) (writing : Bool) (w : Went) (r r′ : Tally) (s s′ p p′ out out′ : List ℕ) → wentTo s p r out ≡ wentOn h l writing w → wentTo s′ p′ r′ out′ ≡ wentOn h l writing w
-    → (r ≡ r′) × (s ≡ s′) × (p ≡ p′) × (out ≡ out′)
-go-on-unique h l writing w r r′ s s′ p p′ out out′ e f =
-    let same : wentTo s p r out ≡ wentTo s′ p′ r′ out′ = e ∙ sym f in (
-      (λ i. record { at = same i .run .at; count = same i .run .count }),
-      (λ i. same i .run .label .states),
-      (λ i. same i .run .label .pressed),
-      (λ i. same i .out),
-    )
-
--- of the call that chooses
 pub choose-unique : (hit : Point → Hit) (l : Label) (records : List ℕ) (x y : Chosen) (before after after′ : List ℕ) → Chooses hit l records x before after → Chooses hit l records y before after′
     → (x ≡ y) × (after ≡ after′)
 choose-unique hit l records x y before after after′ e f = (e .answer ∙ sym (f .answer), e .output ∙ sym (f .output))

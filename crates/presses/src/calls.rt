@@ -1,9 +1,8 @@
-// The parts of a call that need no buttons: where its runs begin, what it refuses with, and its answer.
+// The parts of a call that need neither buttons nor records: where its runs begin, and its answer.
 use crate::Picked;
 use crate::Tally;
-use crate::judge::are_taken;
 ghost use mathlib.Core.Path.{_≡_};
-ghost use Rattle.presses.specs.Turns.{begunAt, countingFrom, writingFrom, ruled, concluded};
+ghost use Rattle.presses.specs.Turns.{begunAt, countingFrom, writingFrom, concluded};
 
 // A run that begins at a place.
 pub fn begin(from: usize) -> Tally
@@ -21,19 +20,6 @@ pub fn counting_from(bytes: usize, numbers: usize) -> usize
         return bytes;
     }
     0
-}
-
-// What records are refused with, 0 for nothing, where so many choices were counted and the list has so many numbers.
-pub fn rule(states: [u8; 256], records: &[u8], count: usize, numbers: usize) -> u8
-    ensures { λ r. ⌜ r ≡ ruled states (now (records .entry)) count numbers ⌝ }
-{
-    if are_taken(states, records) {
-        if count <= numbers / 2 {
-            return 0;
-        }
-        return paper::NO_ROOM;
-    }
-    paper::BAD_RECORD
 }
 
 // Where the run that writes begins: at the end, where the records are refused, so that nothing is done.

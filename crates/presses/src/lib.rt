@@ -1,21 +1,15 @@
-// Presses on buttons: what is kept of records, and which choices they are, by whoever looks up the button that a point is in.
+// Presses on buttons: whether a button holds a point, what is kept of records from call to call, and what is answered of them.
 use house::Point;
 ghost use mathlib.Core.Path.{_≡_};
 ghost use Rattle.presses.specs.Buttons.{holds};
 ghost use Rattle.presses.specs.Choosing as spec;
 
 mod calls;
-mod judge;
-mod turn;
 
 pub use calls::begin;
 pub use calls::conclude;
 pub use calls::counting_from;
-pub use calls::rule;
 pub use calls::writing_from;
-pub use judge::are_taken;
-pub use turn::go_on;
-pub use turn::look_at;
 
 // A button: a rectangle with an item number, hidden where `shown` is 0.
 #[repr(C)]

@@ -1,6 +1,7 @@
 // The header and the body, before anything is written.
 use messages::Header;
 use touch::CheckedBody;
+use touch_frames::check_body;
 ghost use Rattle.reading.specs.Passes.{Judges};
 
 // What stands before a message's frames and where in the message they begin, or the first fault.
@@ -10,7 +11,7 @@ pub(crate) fn judge(message: &[u8], strictly: bool) -> CheckedBody
     match messages::read_header(message, messages::TOUCH, messages::TOUCH) {
         Header::Refused(e) => CheckedBody::Refused(e),
         Header::Event(_) => {
-            let checked = touch::check_body(&message[messages::HEADER_BYTES..], false, strictly);
+            let checked = check_body(&message[messages::HEADER_BYTES..], false, strictly);
             let CheckedBody::Body(head, at) = checked else {
                 return checked;
             };

@@ -188,7 +188,7 @@ pub(crate) fn receive_touch(
 {
     let settings = marks.settings;
     let judged = channel::is_judged(settings.flags, marks.begun);
-    let checked = touch::check_body(body, judged, false);
+    let checked = touch_frames::check_body(body, judged, false);
     let CheckedBody::Body(head, at) = checked else {
         return refuse(marks, checked.refusal());
     };

@@ -1,13 +1,8 @@
-// The touch message (000, 2.2.3.3): contacts, frames and the whole body, read field by field.
+// The touch message (000, 2.2.3.3): its contacts, read field by field, and what its readers answer.
 mod contact;
-mod frames;
 mod parts;
 
 pub use contact::read_contact;
-pub use frames::check_body;
-pub use frames::read_frame_head;
-pub use frames::read_touch_head;
-pub use frames::skip_contacts;
 use framing::BodyHead;
 use house::Contact;
 use house::Head;
@@ -15,11 +10,6 @@ use house::Point;
 use house::Sides;
 ghost use mathlib.Core.Path.{_≡_};
 ghost use Rattle.touch.specs.Answer.{pointRefusal, sidesRefusal, optionalRefusal, contactRefusal, headRefusal, touchHeadRefusal, endRefusal, checkedRefusal};
-
-// The most frames of a message, and the most contacts of a frame.
-pub const FRAMES_MOST: u16 = 64;
-
-pub const CONTACTS_MOST: u16 = 63;
 
 // The optional fields of a contact; those that are absent are 0.
 pub(crate) struct Optional {

@@ -23,7 +23,7 @@ use slices::Written;
 // The greatest encodeTime of a message.
 const TIME_MOST: u32 = 0x3FFF_FFFF;
 
-const FRAMES_MOST: usize = touch::FRAMES_MOST as usize;
+const FRAMES_MOST: usize = touch_frames::FRAMES_MOST as usize;
 
 // What stands before a message's frames: encodeTime and their count.
 fn write_touch_head(out: &mut [u8], time: Milliseconds, frames: u8) -> usize

@@ -62,10 +62,10 @@ use Rattle.presses.proofs.counting_from as counting-from
 use Rattle.presses.proofs.counting_from.Symbol as counting-from-def
 use Rattle.presses.proofs.counting_from.Symbol.{name as #counting-from}
 use Rattle.presses.proofs.counting_from.Met as counting-from-thm
-use Rattle.presses.proofs.rule as rule
-use Rattle.presses.proofs.rule.Symbol as rule-def
-use Rattle.presses.proofs.rule.Symbol.{name as #rule}
-use Rattle.presses.proofs.rule.Met as rule-thm
+use Rattle.taken_records.proofs.rule as rule
+use Rattle.taken_records.proofs.rule.Symbol as rule-def
+use Rattle.taken_records.proofs.rule.Symbol.{name as #rule}
+use Rattle.taken_records.proofs.rule.Met as rule-thm
 use Rattle.presses.proofs.writing_from as writing-from
 use Rattle.presses.proofs.writing_from.Symbol as writing-from-def
 use Rattle.presses.proofs.writing_from.Symbol.{name as #writing-from}
@@ -511,7 +511,7 @@ kangirlo-choose-parts-spec 𝓤 H 𝓜 𝓖 𝓡 =
     (meets 𝓤 H (𝓖 .A) (givenOf 𝓤 H 𝓜 𝓖) (𝓜 .mem) (𝓡 .run) (tablesOf 𝓤 H 𝓜 (tables 𝓤 H 𝓜 𝓡 code.env)) (
       cited 𝓤 H (CountingFrom 𝓤 H (𝓖 .A) (𝓜 .mem) (𝓡 .run)) 𝓜 𝓡 code.env #counting-from counting-from-def.routine code.calls-presses·counting-from (counting-from-thm.met 𝓤 H 𝓜 𝓖 𝓡),
       cited 𝓤 H (Drive 𝓤 H (𝓖 .A) (𝓜 .mem) (𝓡 .run)) 𝓜 𝓡 code.env #drive drive-def.routine code.calls-label·drive·drive (drive-thm.met 𝓤 H 𝓜 𝓖 𝓡),
-      cited 𝓤 H (Rule 𝓤 H (𝓖 .A) (𝓜 .mem) (𝓡 .run)) 𝓜 𝓡 code.env #rule rule-def.routine code.calls-presses·rule (rule-thm.met 𝓤 H 𝓜 𝓖 𝓡),
+      cited 𝓤 H (Rule 𝓤 H (𝓖 .A) (𝓜 .mem) (𝓡 .run)) 𝓜 𝓡 code.env #rule rule-def.routine code.calls-taken-records·rule (rule-thm.met 𝓤 H 𝓜 𝓖 𝓡),
       cited 𝓤 H (WritingFrom 𝓤 H (𝓖 .A) (𝓜 .mem) (𝓡 .run)) 𝓜 𝓡 code.env #writing-from writing-from-def.routine code.calls-presses·writing-from (writing-from-thm.met 𝓤 H 𝓜 𝓖 𝓡),
       cited 𝓤 H (Conclude 𝓤 H (𝓖 .A) (𝓜 .mem) (𝓡 .run)) 𝓜 𝓡 code.env #conclude conclude-def.routine code.calls-presses·conclude (conclude-thm.met 𝓤 H 𝓜 𝓖 𝓡),
     ))

@@ -60,10 +60,10 @@ use Rattle.presses.proofs.begin as begin
 use Rattle.presses.proofs.begin.Symbol as begin-def
 use Rattle.presses.proofs.begin.Symbol.{name as #begin}
 use Rattle.presses.proofs.begin.Met as begin-thm
-use Rattle.presses.proofs.go_on as go-on
-use Rattle.presses.proofs.go_on.Symbol as go-on-def
-use Rattle.presses.proofs.go_on.Symbol.{name as #go-on}
-use Rattle.presses.proofs.go_on.Met as go-on-thm
+use Rattle.press_turns.proofs.go_on as go-on
+use Rattle.press_turns.proofs.go_on.Symbol as go-on-def
+use Rattle.press_turns.proofs.go_on.Symbol.{name as #go-on}
+use Rattle.press_turns.proofs.go_on.Met as go-on-thm
 use Rattle.label.proofs.Again as slice
 use Rattle.label.proofs.Held.{tallyVal, IsTally, tally-is, sliceOf, Buttons, Records, statesTy, statesRow, pressedTy, pressedRow, lent, States, Pressed, Numbers, τx, τp, τt, τs, τc, σx, σp, σc}
 use Rattle.label.proofs.search.hit_at as hit-at
@@ -423,4 +423,4 @@ drive-spec 𝓤 H 𝓜 𝓖 𝓡 =
     (meets 𝓤 H (𝓖 .A) (givenOf 𝓤 H 𝓜 𝓖) (𝓜 .mem) (𝓡 .run) (tablesOf 𝓤 H 𝓜 (tables 𝓤 H 𝓜 𝓡 code.env))
     (cited 𝓤 H (Begin 𝓤 H (𝓖 .A) (𝓜 .mem) (𝓡 .run)) 𝓜 𝓡 code.env #begin begin-def.routine code.calls-presses·begin (begin-thm.met 𝓤 H 𝓜 𝓖 𝓡))
     (cited 𝓤 H (HitAt 𝓤 H (𝓖 .A) (𝓜 .mem) (𝓡 .run)) 𝓜 𝓡 code.env #hit-at hit-at-def.routine code.calls-label·search·hit-at (hit-at-thm.met 𝓤 H 𝓜 𝓖 𝓡))
-    (cited 𝓤 H (GoOn 𝓤 H (𝓖 .A) (𝓜 .mem) (𝓡 .run)) 𝓜 𝓡 code.env #go-on go-on-def.routine code.calls-presses·go-on (go-on-thm.met 𝓤 H 𝓜 𝓖 𝓡)))
+    (cited 𝓤 H (GoOn 𝓤 H (𝓖 .A) (𝓜 .mem) (𝓡 .run)) 𝓜 𝓡 code.env #go-on go-on-def.routine code.calls-press-turns·go-on (go-on-thm.met 𝓤 H 𝓜 𝓖 𝓡)))

@@ -54,10 +54,10 @@ use Rattle.presses.proofs.Hit as R
 use Rattle.presses.proofs.Hit.Laws as R′
 use Rattle.presses.proofs.Look as K
 use Rattle.presses.proofs.Look.Laws as K′
-use Rattle.presses.proofs.look_at as k
-use Rattle.presses.proofs.look_at.Symbol as k-def
-use Rattle.presses.proofs.look_at.Symbol.{name as #look-at}
-use Rattle.presses.proofs.look_at.Met as k-thm
+use Rattle.press_turns.proofs.look_at as k
+use Rattle.press_turns.proofs.look_at.Symbol as k-def
+use Rattle.press_turns.proofs.look_at.Symbol.{name as #look-at}
+use Rattle.press_turns.proofs.look_at.Met as k-thm
 use Rattle.label.proofs.Places.{hit-due, hit-none}
 use Rattle.label.proofs.kangirlo_button_at as b
 use Rattle.label.proofs.kangirlo_button_at.Symbol as b-def
@@ -315,7 +315,7 @@ hit-at-spec 𝓤 H 𝓜 𝓖 𝓡 =
     entered 𝓤 H (tripleOf 𝓤 H (𝓖 .A) f.signature (f.spec 𝓤 H (𝓖 .A) (𝓜 .mem) (𝓡 .run)))
     (tables 𝓤 H 𝓜 𝓡 code.env .C) (tables 𝓤 H 𝓜 𝓡 code.env .Λ) #key code.function (code.unfolded 𝓤 H 𝓜 𝓡)
     (meets 𝓤 H (𝓖 .A) (givenOf 𝓤 H 𝓜 𝓖) (𝓜 .mem) (𝓡 .run) (tablesOf 𝓤 H 𝓜 (tables 𝓤 H 𝓜 𝓡 code.env)) (record {
-      looks = cited 𝓤 H (Looks 𝓤 H (𝓖 .A) (𝓜 .mem) (𝓡 .run)) 𝓜 𝓡 code.env #look-at k-def.routine code.calls-presses·look-at (k-thm.met 𝓤 H 𝓜 𝓖 𝓡);
+      looks = cited 𝓤 H (Looks 𝓤 H (𝓖 .A) (𝓜 .mem) (𝓡 .run)) 𝓜 𝓡 code.env #look-at k-def.routine code.calls-press-turns·look-at (k-thm.met 𝓤 H 𝓜 𝓖 𝓡);
       finds = cited 𝓤 H (Finds 𝓤 H (𝓖 .A) (𝓜 .mem) (𝓡 .run)) 𝓜 𝓡 code.env #button-at b-def.routine code.calls-label·kangirlo-button-at (b-thm.met 𝓤 H 𝓜 𝓖 𝓡);
       hits = cited 𝓤 H (Hits 𝓤 H (𝓖 .A) (𝓜 .mem) (𝓡 .run)) 𝓜 𝓡 code.env #hit-of g-def.routine code.calls-label·search·hit-of (g-thm.met 𝓤 H 𝓜 𝓖 𝓡);
       none = cited 𝓤 H (None 𝓤 H (𝓖 .A) (𝓜 .mem) (𝓡 .run)) 𝓜 𝓡 code.env #none-hit n-def.routine code.calls-label·search·none-hit (n-thm.met 𝓤 H 𝓜 𝓖 𝓡);

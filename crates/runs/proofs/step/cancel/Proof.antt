@@ -2,7 +2,6 @@
 -- Assumes nothing.
 use borrow.Author.Needs.{needs}
 use mathlib.Core.Path.{refl}
-use native.Mathlib.Omega.{arith}
 use Rattle.runs.proofs.Stepping.{lists-active}
 use Rattle.runs.proofs.step.cancel.Statement.{statement}
 use Rattle.runs.proofs.step.cancel.Tie as tie

@@ -91,7 +91,7 @@ module _ {C : Type 0} (view : View C) (rules : Rules C) where
   -- ---- offsets are not looked at
 
   module _ (untimed : Bool) where
-    timed-step : (m : Machine) (f : Frame C) → stepMachine view rules m (timedFrame untimed f) ≡ stepMachine view rules m f
+    pub timed-step : (m : Machine) (f : Frame C) → stepMachine view rules m (timedFrame untimed f) ≡ stepMachine view rules m f
     unfolding stepMachine
     timed-step m f = ap (λ (cs : List C). machineAfter view (verdict view rules m cs) (rules .next) m cs) (timed-contacts untimed f)
 

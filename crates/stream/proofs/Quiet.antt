@@ -16,7 +16,7 @@ use Rattle.machine.specs.Held.{opening}
 use Rattle.machine.specs.Machine.{Machine, cancelled, verdict, cancels, stepMachine, runMachine, runBytes}
 use Rattle.machine.proofs.Table.{resting-state}
 use Rattle.machine.proofs.Machine.{verdict-other, ignored-machine, ignored-bytes, cancelled-machine, cancelled-bytes, machine-append, bytes-append, keep-table, keep-bytes}
-use Rattle.machine.proofs.Conforming.{timed-machine}
+use Rattle.machine.proofs.Conforming.{timed-step}
 use Rattle.stream.specs.Stream.{Profile, Stream, Given, nothing, settings, frames, dismissal, framesGiven, opens, unopened, Unopened, UnopenedAfter, Silent, SilentAs, machineAt, bytesAt, CancelledAfter, next, wrote, after, written}
 
 -- ---- one of two tests is not passed, and the other is
@@ -45,16 +45,11 @@ module _ {C : Type 0} (view : View C) where
   timed-opens untimed m f = ap (opening view (m .held)) (timed-contacts untimed f)
 
   module _ (rules : Rules C) where
-    -- one frame of theirs
-    timed-one : (untimed : Bool) (m : Machine) (f : Frame C) → stepMachine view rules m (timedFrame untimed f) ≡ stepMachine view rules m f
-    unfolding runMachine timedFrames
-    timed-one untimed m f = timed-machine view rules untimed m (f ∷ [])
-
     timed-unopened : (untimed : Bool) (m : Machine) (fs : List (Frame C)) → unopened view rules m (timedFrames untimed fs) ≡ unopened view rules m fs
     unfolding unopened
     timed-unopened untimed m [] = rw (timed-none untimed)
     timed-unopened untimed m (f ∷ fs) =
-        rw (timed-cons untimed f fs, timed-contacts untimed f, timed-one untimed m f)
+        rw (timed-cons untimed f fs, timed-contacts untimed f, timed-step view rules untimed m f)
         (ap (λ b. cond (opens view m f) false b) (timed-unopened untimed (stepMachine view rules m f) fs))
 
     nothing-unopened : (m : Machine) → unopened view rules m [] ≡ true

@@ -10,7 +10,7 @@ use lib.ListN.{length, take, length-append}
 use lib.Seq.{take-at}
 use borrow.Author.Tests.{leb-true, leb-false, eqb-true, eqb-false, le-leb, lt-leb, eq-eqb, ne-eqb}
 use Rattle.house.specs.Layout.{kindOf, headIn, contactOf, recordOf}
-use Rattle.house.specs.WellFormed.{all, headSpare, contactSpare, contactWell, kindWell, wellFormed}
+use Rattle.house.specs.WellFormed.{all, headSpare, contactSpare, headWell, contactWell, kindWell, wellFormed}
 use Rattle.house.specs.declared.Record.{Record}
 use Rattle.house.specs.declared.Record.the-variants as Record
 use Rattle.house.proofs.WellFormed.{never}
@@ -44,7 +44,7 @@ pub well-short : (l : List ℕ) → length l < 21 → wellFormed l ≡ false
 unfolding wellFormed
 well-short l h = rw (lt-leb _ _ h)
 
-pub well-head : (l : List ℕ) → 21 ≤ length l → kindOf (take 21 l) ≡ 0 → wellFormed l ≡ eqb (headSpare (take 21 l)) 0
+pub well-head : (l : List ℕ) → 21 ≤ length l → kindOf (take 21 l) ≡ 0 → let s = take 21 l in wellFormed l ≡ all (eqb (headSpare s) 0 ∷ headWell (headIn s) ∷ [])
 unfolding wellFormed
 well-head l h k = rw (le-leb _ _ h, eq-eqb _ 0 k)
 

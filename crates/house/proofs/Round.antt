@@ -3,19 +3,21 @@
 use mathlib.Core.Path.{_≡_, refl, sym, ap, _∙_}
 use mathlib.Core.Bool.{true}
 use mathlib.Core.List.{List, [], _∷_, _++_}
-use Prim.Native.Nat.{ℕ, suc, _/_, _%_, _^_, _<_, _≤_}
-use native.Mathlib.Nat.{mod-eq-of-lt}
+use Prim.Native.Nat.{ℕ, suc, _+_, _*_, _/_, _%_, _^_, _<_, _≤_}
+use native.Mathlib.Nat.{mod-eq-of-lt, mul-add-mod-self-right}
 use native.Mathlib.Omega.{arith}
 use lib.IntN.{ℤ}
 use lib.ListN.{length, take}
 use lib.Seq.{length-take-le}
+use lib.Pow.{high, mod-pow-add}
+use lib.Arith.{digits-lt}
 use borrow.Author.Tests.{eqb-true, eq-eqb}
 use Rattle.digits.specs.Digits.{joined, Bytes}
 use Rattle.digits.proofs.Laws.{bytes-take}
 use Rattle.house.specs.Fields.{field, packed, unpacked, valueAt}
 use Rattle.house.specs.Twos.{twosOf, ofTwos, Holds}
 use Rattle.house.specs.Layout.{head, headFields, headWidths, headBytes, headAs, headIn, contactFields, contactWidths, contactBytes, contactAs, contactOf, kindOf, recordOf, bytesOf}
-use Rattle.house.specs.WellFormed.{headSpare, contactSpare, contactWell, kindWell, wellFormed}
+use Rattle.house.specs.WellFormed.{headSpare, contactSpare, headWell, contactWell, kindWell, wellFormed}
 use Rattle.house.specs.Fits.{HeadFits, ContactFits}
 use Rattle.house.specs.declared.Head.{Head}
 use Rattle.house.specs.declared.Contact.{Contact}
@@ -41,7 +43,7 @@ length-contact k c = length-packed (contactFields k c)
 head-fields : (h : Head) → unpacked headWidths (headBytes h) ≡ headFields h
 unfolding headBytes
 head-fields h =
-    unpacked-packed (headFields h) (field-fit 2 0, (field-fit 6 (h .count), (field-fit 61 (h .offset .0), (field-fit 99 0, tt)))) refl
+    unpacked-packed (headFields h) (field-fit 2 0, (field-fit 6 (h .count), (field-fit 61 (h .offset .0), (field-fit 3 (h .count / 2 ^ 6), (field-fit 96 0, tt))))) refl
 
 contact-fit : (k : ℕ) (c : Contact) → Fit (contactFields k c)
 contact-fit k c = (field-fit 2 k, (field-fit 6 (c .flags), (field-fit 3 (c .present), (field-fit 8 (c .id), (field-fit 30 (twosOf 30 (c .place .x)), (field-fit 30 (twosOf 30 (c .place .y)), (field-fit 15 (twosOf 15 (c .sides .left)), (field-fit 15 (twosOf 15 (c .sides .top)), (field-fit 15 (twosOf 15 (c .sides .right)), (field-fit 15 (twosOf 15 (c .sides .bottom)), (field-fit 9 (c .orientation), (field-fit 16 (c .pressure), (field-fit 4 0, tt)))))))))))))
@@ -64,7 +66,7 @@ kind-contact k c h = kind-either (contactBytes k c) ∙ ap (valueAt 0) (contact-
 
 head-spare : (h : Head) → headSpare (headBytes h) ≡ 0
 unfolding headSpare
-head-spare h = ap (valueAt 3) (head-fields h)
+head-spare h = ap (valueAt 4) (head-fields h)
 
 contact-spare : (k : ℕ) (c : Contact) → contactSpare (contactBytes k c) ≡ 0
 unfolding contactSpare
@@ -72,10 +74,14 @@ contact-spare k c = ap (valueAt 12) (contact-fields k c)
 
 -- ---- UNPACK OF PACK
 
+-- a count of nine bits, by its high and its low ones
+count-back : (n : ℕ) → n < 2 ^ 9 → n / 2 ^ 6 % 2 ^ 3 * 2 ^ 6 + n % 2 ^ 6 ≡ n
+count-back n h = sym (mod-pow-add n 3 6) ∙ mod-eq-of-lt h
+
 pub head-back : (h : Head) → HeadFits h → headIn (headBytes h) ≡ h
 unfolding headIn
 head-back h f =
-    ap headAs (head-fields h) ∙ (λ i. record { count = mod-eq-of-lt (f .count) i; offset = record { 0 = mod-eq-of-lt (f .offset) i } })
+    ap headAs (head-fields h) ∙ (λ i. record { count = count-back (h .count) (f .count) i; offset = record { 0 = mod-eq-of-lt (f .offset) i } })
 
 -- a signed field of w + 1 bits, through its width and back
 signed-back : (w : ℕ) (z : ℤ) → Holds (suc w) z → ofTwos (suc w) (twosOf (suc w) z % 2 ^ suc w) ≡ z
@@ -120,10 +126,12 @@ record-of-contact k c t h l f =
 
 -- ---- WHAT IS PACKED IS WELL FORMED
 
-pub head-well : (h : Head) (t : List ℕ) → wellFormed (headBytes h ++ t) ≡ true
-head-well h t =
+pub head-well : (h : Head) (t : List ℕ) → HeadFits h → headWell h ≡ true → wellFormed (headBytes h ++ t) ≡ true
+head-well h t f w =
     let e = front-is (headBytes h) t (length-head h) in
-    well-head (headBytes h ++ t) (front-long (headBytes h) t (length-head h)) (ap kindOf e ∙ kind-head h) ∙ eq-eqb _ 0 (ap headSpare e ∙ head-spare h)
+    let ws = eq-eqb _ 0 (ap headSpare e ∙ head-spare h) in
+    let wh = ap headWell (ap headIn e ∙ head-back h f) ∙ w in
+    well-head (headBytes h ++ t) (front-long (headBytes h) t (length-head h)) (ap kindOf e ∙ kind-head h) ∙ all-join _ _ ws (all-join _ [] wh all-none)
 
 pub contact-well : (k : ℕ) (c : Contact) (t : List ℕ) → 1 ≤ k → k < 4 → ContactFits c → contactWell c ≡ true → kindWell k c ≡ true → wellFormed (contactBytes k c ++ t) ≡ true
 contact-well k c t h l f wc wk =
@@ -140,7 +148,7 @@ contact-well k c t h l f wc wk =
 
 pub head-fits : (s : List ℕ) → HeadFits (headIn s)
 unfolding headIn unpacked
-head-fits s = record { count = field-fit 6 _; offset = field-fit 61 _ }
+head-fits s = record { count = digits-lt (field-fit 3 _) (field-fit 6 _); offset = field-fit 61 _ }
 
 signed-fits : (w q : ℕ) → Holds w (ofTwos w (q % 2 ^ w))
 signed-fits w q = of-holds w (q % 2 ^ w) (field-fit w q)
@@ -169,12 +177,20 @@ contact-fits s =
 signed-again : (w q : ℕ) → field w (twosOf w (ofTwos w (q % 2 ^ w))) ≡ field w q
 signed-again w q = ap (field w) (twos-of w (q % 2 ^ w) (field-fit w q)) ∙ field-again w q
 
+-- the low bits of a count, and its high ones
+low-again : (q r : ℕ) → field 6 (q * 2 ^ 6 + r % 2 ^ 6) ≡ field 6 r
+low-again q r = ap (λ (v : ℕ). record { width = 6; value = v }) (mul-add-mod-self-right q (2 ^ 6) (r % 2 ^ 6)) ∙ field-again 6 r
+
+high-again : (q r : ℕ) → field 3 ((q % 2 ^ 3 * 2 ^ 6 + r % 2 ^ 6) / 2 ^ 6) ≡ field 3 q
+high-again q r = ap (field 3) (high (q % 2 ^ 3) 6 (field-fit 6 r)) ∙ field-again 3 q
+
 pub head-again : (s : List ℕ) → Bytes s → length s ≡ 21 → kindOf s ≡ head → headSpare s ≡ 0 → headBytes (headIn s) ≡ s
 unfolding headBytes headIn headSpare kindOf unpacked
 head-again s h l k z =
     let n = joined 0 s in
     let e : headFields (headIn s) ≡ unpacked headWidths s = λ i.
-    record { width = 2; value = sym k i } ∷ field-again 6 (n / 2 ^ 160) i ∷ field-again 61 (n / 2 ^ 99) i ∷ record { width = 99; value = sym z i } ∷ [] in
+    record { width = 2; value = sym k i } ∷ low-again (n / 2 ^ 96 % 2 ^ 3) (n / 2 ^ 160) i ∷ field-again 61 (n / 2 ^ 99) i ∷ high-again (n / 2 ^ 96) (n / 2 ^ 160) i
+    ∷ record { width = 96; value = sym z i } ∷ [] in
     ap packed e ∙ packed-unpacked headWidths s h l refl
 
 pub contact-again : (s : List ℕ) → Bytes s → length s ≡ 21 → contactSpare s ≡ 0 → contactBytes (kindOf s) (contactOf s) ≡ s
@@ -192,7 +208,7 @@ again : (l : List ℕ) → Front l → wellFormed l ≡ true → Bytes l → byt
 unfolding bytesOf
 again l (short h) w b = never w (well-short l h)
 again l (Front.head h k) w b =
-    let z = eqb-true _ 0 (sym (well-head l h k) ∙ w) in
+    let z = eqb-true _ 0 (all-split _ _ (sym (well-head l h k) ∙ w) .0) in
     ap bytesOf (record-head l h k) ∙ head-again (take 21 l) (bytes-take 21 l b) (length-take-le 21 l h) k z
 again l (Front.contact h k) w b =
     let z = eqb-true _ 0 (all-split _ _ (sym (well-contact l h k) ∙ w) .0) in

@@ -12,7 +12,7 @@ use Rattle.house.specs.declared.Sides.{Sides}
 
 -- no value is wider than its field
 pub record HeadFits (h : Head) : Type 0 where
-  pub count : h .count < 2 ^ 6
+  pub count : h .count < 2 ^ 9
   pub offset : h .offset .0 < 2 ^ 61
 
 pub record ContactFits (c : Contact) : Type 0 where

@@ -1,5 +1,5 @@
 -- Document 01, "House records": the layouts of heads and contacts, and what stands at the front of a slice of records.
-use Prim.Native.Nat.{ℕ}
+use Prim.Native.Nat.{ℕ, _+_, _*_, _/_, _^_}
 use mathlib.Core.Bool.{cond}
 use mathlib.Core.List.{List, [], _∷_}
 use lib.IntN.{ℤ}
@@ -31,12 +31,13 @@ dismissed = 3
 
 -- ---- layouts
 
--- "Head: kind 0 (2 bits), contact count (6), offset (61), 99 zeros."
+-- "Head: kind 0 (2 bits), contact count (6), offset (61)"; #107: "The head's 6-bit count keeps its place as the low bits, and three high bits
+-- go directly after the offset, which leaves 96 zeros."
 abbrev pub headFields : Head → List Field
-headFields h = field 2 head ∷ field 6 (h .count) ∷ field 61 (h .offset .0) ∷ field 99 0 ∷ []
+headFields h = field 2 head ∷ field 6 (h .count) ∷ field 61 (h .offset .0) ∷ field 3 (h .count / 2 ^ 6) ∷ field 96 0 ∷ []
 
 abbrev pub headWidths : List ℕ
-headWidths = 2 ∷ 6 ∷ 61 ∷ 99 ∷ []
+headWidths = 2 ∷ 6 ∷ 61 ∷ 3 ∷ 96 ∷ []
 
 abbrev pub signed : ℕ → ℤ → Field
 signed w z = field w (twosOf w z)
@@ -65,7 +66,7 @@ contactBytes kind c = packed (contactFields kind c)
 
 -- a head and a contact of their fields
 abbrev pub headAs : List Field → Head
-headAs fs = record { count = valueAt 1 fs; offset = record { 0 = valueAt 2 fs } }
+headAs fs = record { count = valueAt 3 fs * 2 ^ 6 + valueAt 1 fs; offset = record { 0 = valueAt 2 fs } }
 
 abbrev pub contactAs : List Field → Contact
 contactAs fs = record {

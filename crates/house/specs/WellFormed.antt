@@ -8,11 +8,16 @@ use lib.ListN.{length, take}
 use lib.Dec.{leb, eqb, ltb}
 use Rattle.states.specs.Table.{listed}
 use Rattle.house.specs.Fields.{recordBytes, unpacked, valueAt}
-use Rattle.house.specs.Layout.{headWidths, contactWidths, kindOf, contactOf, head, touched, cancelled}
+use Rattle.house.specs.Layout.{headWidths, contactWidths, kindOf, headIn, contactOf, head, touched, cancelled}
+use Rattle.house.specs.declared.Head.{Head}
 use Rattle.house.specs.declared.Contact.{Contact}
 use Rattle.house.specs.declared.Sides.{Sides}
 
--- the limits of a message: of a coordinate's magnitude (S4) and a side's (S2), of an orientation and of a pressure
+-- the limits of a message: of a frame's contacts (#107: "The limit of 63 becomes 256."), of a coordinate's magnitude (S4) and a side's (S2), of
+-- an orientation and of a pressure
+abbrev pub contactsMost : ℕ
+contactsMost = 256
+
 abbrev pub placeMost : ℕ
 placeMost = 0x1FFFFFFF
 
@@ -59,6 +64,10 @@ sidesWell false s = all (zero? (s .left) ∷ zero? (s .top) ∷ zero? (s .right)
 abbrev pub atMost : Bool → ℕ → ℕ → Bool
 atMost there n v = leb v (cond there n 0)
 
+-- #107: "a head over 256 is 14"
+unfoldable pub headWell : Head → Bool
+headWell h = leb (h .count) contactsMost
+
 unfoldable pub contactWell : Contact → Bool
 contactWell c =
     all
@@ -81,7 +90,7 @@ kindWell kind c =
 
 -- the unused bits of a record's 21 bytes
 unfoldable pub headSpare : List ℕ → ℕ
-headSpare s = valueAt 3 (unpacked headWidths s)
+headSpare s = valueAt 4 (unpacked headWidths s)
 
 unfoldable pub contactSpare : List ℕ → ℕ
 contactSpare s = valueAt 12 (unpacked contactWidths s)
@@ -92,6 +101,6 @@ wellFormed l =
     let s : List ℕ = take recordBytes l in
     cond (leb recordBytes (length l))
     (cond (eqb (kindOf s) head)
-    (eqb (headSpare s) 0)
+    (all (eqb (headSpare s) 0 ∷ headWell (headIn s) ∷ []))
     (all (eqb (contactSpare s) 0 ∷ contactWell (contactOf s) ∷ kindWell (kindOf s) (contactOf s) ∷ [])))
     false

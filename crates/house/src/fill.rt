@@ -22,10 +22,12 @@ pub(crate) fn fill_head(out: &mut [u8], head: Head)
 {
     let offset = head.offset;
     put(out, 0, 2, 0);
-    put(out, 2, 6, head.count as u64);
+    let count = head.count as u64;
+    put(out, 2, 6, count);
     put(out, 8, 61, offset.0);
-    // 99 zeros are more than a word, so they go in two parts
-    put(out, 69, 59, 0);
+    put(out, 69, 3, count / 64);
+    // 96 zeros are more than a word, so they go in two parts
+    put(out, 72, 56, 0);
     put(out, 128, 40, 0);
 }
 

@@ -28,7 +28,9 @@ pub const CANCELLED: u8 = 2;
 
 pub const DISMISSED: u8 = 3;
 
-// The limits of a contact's values: of a coordinate's and a side's magnitude, of an orientation and of a pressure.
+// The limits of a message: of a frame's contacts, of a coordinate's and a side's magnitude, of an orientation and of a pressure.
+pub const CONTACTS_MOST: u16 = 256;
+
 pub const PLACE_MOST: u32 = 0x1FFFFFFF;
 
 pub const SIDE_MOST: u32 = 0x3FFF;
@@ -140,7 +142,9 @@ pub fn is_well_formed(records: &[u8]) -> bool
     let whole = &records[..RECORD_BYTES];
     let kind = read::read_kind(whole);
     if kind == HEAD {
-        return well::is_head_spare_zero(whole);
+        let unused_zero = well::is_head_spare_zero(whole);
+        let head = read::read_head(whole);
+        return unused_zero & well::is_head_well(head);
     }
     let spare_zero = well::is_contact_spare_zero(whole);
     let contact = read::read_contact(whole);

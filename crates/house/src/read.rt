@@ -27,10 +27,11 @@ pub(crate) fn read_head(whole: &[u8]) -> Head
     requires { ⌜ length (now whole) ≡ 21 ⌝ }
     ensures { λ r. ⌜ r ≡ headIn (now (whole .entry)) ⌝ }
 {
-    let count = get(whole, 2, 6) as u16;
+    let low = get(whole, 2, 6) as u16;
     let offset = get(whole, 8, 61);
+    let high = get(whole, 69, 3) as u16;
     Head {
-        count: count,
+        count: high * 64 + low,
         offset: Microseconds(offset),
     }
 }

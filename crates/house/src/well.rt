@@ -1,6 +1,8 @@
 // Which records are well formed.
 use crate::CANCELLED;
+use crate::CONTACTS_MOST;
 use crate::Contact;
+use crate::Head;
 use crate::ORIENTATION_MOST;
 use crate::PLACE_MOST;
 use crate::PRESSURE_MOST;
@@ -14,17 +16,24 @@ use crate::signs::is_zero;
 ghost use mathlib.Core.Path.{_≡_};
 ghost use lib.ListN.{length};
 ghost use lib.Dec.{eqb};
-ghost use Rattle.house.specs.WellFormed.{has, atMost, sidesWell, contactWell, kindWell, headSpare, contactSpare};
+ghost use Rattle.house.specs.WellFormed.{has, atMost, sidesWell, headWell, contactWell, kindWell, headSpare, contactSpare};
 ghost use Rattle.house.specs.Parts.{oneSideWell, pointWell};
 
-// Whether the 99 unused bits of a head are 0: more than a word, so in two parts.
+// Whether the 96 unused bits of a head are 0: more than a word, so in two parts.
 pub(crate) fn is_head_spare_zero(whole: &[u8]) -> bool
     requires { ⌜ length (now whole) ≡ 21 ⌝ }
     ensures { λ r. ⌜ r ≡ eqb (headSpare (now (whole .entry))) 0 ⌝ }
 {
-    let high = get(whole, 69, 59);
+    let high = get(whole, 72, 56);
     let low = get(whole, 128, 40);
     if high == 0 { low == 0 } else { false }
+}
+
+// Whether a head's count is one that a message can have.
+pub(crate) fn is_head_well(head: Head) -> bool
+    ensures { λ r. ⌜ r ≡ headWell head ⌝ }
+{
+    head.count <= CONTACTS_MOST
 }
 
 pub(crate) fn is_contact_spare_zero(whole: &[u8]) -> bool

@@ -1,6 +1,6 @@
 -- `house::is_well_formed` meets its contract: the length and then the kind pick the case.
 -- Assumes nothing.
-use Rattle.house.specs.WellFormed.{contactSpare, contactWell, kindWell}
+use Rattle.house.specs.WellFormed.{headSpare, contactSpare, headWell, contactWell, kindWell}
 use Rattle.house.proofs.WellFormed.{ands-all}
 use Rattle.house.specs.WellFormed.{wellFormed}
 use mathlib.Core.Path.{_≡_, sym, ap, _∙_}
@@ -10,7 +10,7 @@ use lib.Dec.{eqb}
 use lib.ListN.{length, take}
 use lib.Seq.{length-take-le}
 use borrow.Author.Tests.{eq-eqb, ne-eqb, le-leb, lt-leb}
-use Rattle.house.specs.Layout.{kindOf, contactOf}
+use Rattle.house.specs.Layout.{kindOf, headIn, contactOf}
 use borrow.Author.Needs.{needs}
 use Rattle.house.proofs.is_well_formed.Statement.{statement}
 use Rattle.house.proofs.is_well_formed.Tie as tie
@@ -32,11 +32,22 @@ read-kind-requires c κs = whole (c .before)
 is-head-spare-zero-requires : tie.Need-is-head-spare-zero-requires
 is-head-spare-zero-requires c κs = whole (c .before .before .before)
 
+read-head-requires : tie.Need-read-head-requires
+read-head-requires c κs = whole (c .before .before .before .before)
+
+is-head-well-requires : tie.Need-is-head-well-requires
+is-head-well-requires c κs = search needs
+
 returns-2 : tie.Need-returns-2
 unfolding wellFormed
 returns-2 c =
-    let k = c .before .before in
-    rw (le-leb _ _ (k .before .before .if1 .left), eq-eqb _ 0 (sym (k .read-kind .ensures) ∙ c .before .if2 .taken)) (c .is-head-spare-zero .ensures)
+    let r = c .before in
+    let z = r .before in
+    let k = z .before .before in
+    let s = take 21 (k .before .before .before .before .args .records .now) in
+    let well = c .is-head-well .ensures ∙ ap headWell (r .read-head .ensures) in
+    rw (le-leb _ _ (k .before .before .if1 .left), eq-eqb _ 0 (sym (k .read-kind .ensures) ∙ z .before .if2 .taken))
+    ((λ i. z .is-head-spare-zero .ensures i && well i) ∙ ands-all (eqb (headSpare s) 0) (headWell (headIn s) ∷ []))
 
 is-contact-spare-zero-requires : tie.Need-is-contact-spare-zero-requires
 is-contact-spare-zero-requires c κs = whole (c .before .before .before)
@@ -73,6 +84,8 @@ is-well-formed-spec =
     slice-aggregate-whole
     read-kind-requires
     is-head-spare-zero-requires
+    read-head-requires
+    is-head-well-requires
     returns-2
     is-contact-spare-zero-requires
     read-contact-requires

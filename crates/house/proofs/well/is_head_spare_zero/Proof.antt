@@ -1,4 +1,4 @@
--- `house::well::is_head_spare_zero` meets its contract: 99 bits are 59 and 40.
+-- `house::well::is_head_spare_zero` meets its contract: 96 bits are 56 and 40.
 -- Assumes nothing.
 use borrow.Author.Tests.{ne-eqb}
 use mathlib.Core.Path.{_≡_, sym, ap, _∙_}
@@ -13,14 +13,14 @@ use borrow.Author.Needs.{needs}
 use Rattle.house.proofs.well.is_head_spare_zero.Statement.{statement}
 use Rattle.house.proofs.well.is_head_spare_zero.Tie as tie
 
--- the low 99 bits by their parts
-parts : (n : ℕ) → n / 2 ^ 0 % 2 ^ 99 ≡ (n / 2 ^ 40 % 2 ^ 59) * 2 ^ 40 + n / 2 ^ 0 % 2 ^ 40
-parts n = mod-pow-add (n / 2 ^ 0) 59 40 ∙ rw (div-one n)
+-- the low 96 bits by their parts
+parts : (n : ℕ) → n / 2 ^ 0 % 2 ^ 96 ≡ (n / 2 ^ 40 % 2 ^ 56) * 2 ^ 40 + n / 2 ^ 0 % 2 ^ 40
+parts n = mod-pow-add (n / 2 ^ 0) 56 40 ∙ rw (div-one n)
 
-low : (n h l : ℕ) → h ≡ n / 2 ^ 40 % 2 ^ 59 → l ≡ n / 2 ^ 0 % 2 ^ 40 → h ≡ 0 → l ≡ n / 2 ^ 0 % 2 ^ 99
+low : (n h l : ℕ) → h ≡ n / 2 ^ 40 % 2 ^ 56 → l ≡ n / 2 ^ 0 % 2 ^ 40 → h ≡ 0 → l ≡ n / 2 ^ 0 % 2 ^ 96
 low n h l e f z = sym (parts n ∙ rw (← e, z, zero-mul, zero-add, ← f))
 
-high : (n h : ℕ) → h ≡ n / 2 ^ 40 % 2 ^ 59 → (h ≡ 0 → ⊥) → n / 2 ^ 0 % 2 ^ 99 ≡ 0 → ⊥
+high : (n h : ℕ) → h ≡ n / 2 ^ 40 % 2 ^ 56 → (h ≡ 0 → ⊥) → n / 2 ^ 0 % 2 ^ 96 ≡ 0 → ⊥
 high n h e z q =
     let t : h * 2 ^ 40 + n / 2 ^ 0 % 2 ^ 40 ≡ 0 = rw e (sym (parts n) ∙ q) in
     z (omega (arith, t))

@@ -21,8 +21,8 @@ use Rattle.framing.specs.Whole.{Formed, Framed, ends, head, contact, can
 
 -- ---- one record
 
-pub head-formed : (h : Head) → Formed layout.head (headBytes h)
-head-formed h = record { long = length-head h; well = rw append-nil at (head-well h []); kind = kind-head h }
+pub head-formed : (h : Head) → HeadFits h → Formed layout.head (headBytes h)
+head-formed h f = record { long = length-head h; well = rw append-nil at (head-well h [] f); kind = kind-head h }
 
 pub contact-formed : (k : ℕ) (c : Contact) → 1 ≤ k → k < 4 → ContactFits c → contactWell c ≡ true → kindWell k c ≡ true → Formed k (contactBytes k c)
 contact-formed k c low high f w v =
@@ -39,7 +39,7 @@ well-before s t e w =
 -- ---- records, one after the other
 
 pub head-framed : (h : Head) (t : List ℕ) → HeadFits h → Framed (h .count) t → Framed zero (headBytes h ++ t)
-head-framed h t f k = head (headBytes h) t (head-formed h) (subst (λ (n : ℕ). Framed n t) (sym (ap (λ (x : Head). x .count) (head-back h f))) k)
+head-framed h t f k = head (headBytes h) t (head-formed h f) (subst (λ (n : ℕ). Framed n t) (sym (ap (λ (x : Head). x .count) (head-back h f))) k)
 
 pub framed-then : (n : ℕ) (a b : List ℕ) → Framed n a → Framed zero b → Framed n (a ++ b)
 framed-then n a b ends k = k

@@ -10,8 +10,7 @@ use lib.IntN.{ℤ}
 use lib.ListN.{length, take}
 use lib.Seq.{length-take-le}
 use lib.Pow.{high, mod-pow-add}
-use lib.Arith.{digits-lt}
-use borrow.Author.Tests.{eqb-true, eq-eqb}
+use borrow.Author.Tests.{leb-true, eqb-true, le-leb, eq-eqb}
 use Rattle.digits.specs.Digits.{joined, Bytes}
 use Rattle.digits.proofs.Laws.{bytes-take}
 use Rattle.house.specs.Fields.{field, packed, unpacked, valueAt}
@@ -81,7 +80,8 @@ count-back n h = sym (mod-pow-add n 3 6) ∙ mod-eq-of-lt h
 pub head-back : (h : Head) → HeadFits h → headIn (headBytes h) ≡ h
 unfolding headIn
 head-back h f =
-    ap headAs (head-fields h) ∙ (λ i. record { count = count-back (h .count) (f .count) i; offset = record { 0 = mod-eq-of-lt (f .offset) i } })
+    let n : h .count < 2 ^ 9 = omega (arith, f .count) in
+    ap headAs (head-fields h) ∙ (λ i. record { count = count-back (h .count) n i; offset = record { 0 = mod-eq-of-lt (f .offset) i } })
 
 -- a signed field of w + 1 bits, through its width and back
 signed-back : (w : ℕ) (z : ℤ) → Holds (suc w) z → ofTwos (suc w) (twosOf (suc w) z % 2 ^ suc w) ≡ z
@@ -126,11 +126,12 @@ record-of-contact k c t h l f =
 
 -- ---- WHAT IS PACKED IS WELL FORMED
 
-pub head-well : (h : Head) (t : List ℕ) → HeadFits h → headWell h ≡ true → wellFormed (headBytes h ++ t) ≡ true
-head-well h t f w =
+pub head-well : (h : Head) (t : List ℕ) → HeadFits h → wellFormed (headBytes h ++ t) ≡ true
+unfolding headWell
+head-well h t f =
     let e = front-is (headBytes h) t (length-head h) in
     let ws = eq-eqb _ 0 (ap headSpare e ∙ head-spare h) in
-    let wh = ap headWell (ap headIn e ∙ head-back h f) ∙ w in
+    let wh = ap headWell (ap headIn e ∙ head-back h f) ∙ le-leb _ _ (f .count) in
     well-head (headBytes h ++ t) (front-long (headBytes h) t (length-head h)) (ap kindOf e ∙ kind-head h) ∙ all-join _ _ ws (all-join _ [] wh all-none)
 
 pub contact-well : (k : ℕ) (c : Contact) (t : List ℕ) → 1 ≤ k → k < 4 → ContactFits c → contactWell c ≡ true → kindWell k c ≡ true → wellFormed (contactBytes k c ++ t) ≡ true
@@ -146,9 +147,15 @@ contact-well k c t h l f wc wk =
 
 -- ---- WHATEVER IS READ FITS ITS FIELDS
 
-pub head-fits : (s : List ℕ) → HeadFits (headIn s)
-unfolding headIn unpacked
-head-fits s = record { count = digits-lt (field-fit 3 _) (field-fit 6 _); offset = field-fit 61 _ }
+head-fits-by : (l : List ℕ) → kindOf (take 21 l) ≡ head → Front l → wellFormed l ≡ true → HeadFits (headIn (take 21 l))
+unfolding headIn unpacked headWell
+head-fits-by l e (short h) w = never w (well-short l h)
+head-fits-by l e (Front.contact h k) w = absurd (k e)
+head-fits-by l e (Front.head h k) w =
+    record { count = leb-true _ _ (all-split _ [] (all-split _ _ (sym (well-head l h k) ∙ w) .1) .0); offset = field-fit 61 _ }
+
+pub head-fits : (l : List ℕ) → wellFormed l ≡ true → kindOf (take 21 l) ≡ head → HeadFits (headIn (take 21 l))
+head-fits l w k = head-fits-by l k (front l) w
 
 signed-fits : (w q : ℕ) → Holds w (ofTwos w (q % 2 ^ w))
 signed-fits w q = of-holds w (q % 2 ^ w) (field-fit w q)

@@ -5,14 +5,15 @@ use mathlib.Core.Bool.{true, false}
 use lib.IntN.{pos, natAbs}
 use Rattle.states.specs.Table.{listed}
 use Rattle.house.specs.Twos.{Holds}
+use Rattle.house.specs.Layout.{contactsMost}
 use Rattle.house.specs.WellFormed.{has, placeMost, sideMost, orientationMost, pressureMost}
 use Rattle.house.specs.declared.Head.{Head}
 use Rattle.house.specs.declared.Contact.{Contact}
 use Rattle.house.specs.declared.Sides.{Sides}
 
--- no value is wider than its field
+-- a count is one that a message can have, which nine bits hold, and no other value is wider than its field
 pub record HeadFits (h : Head) : Type 0 where
-  pub count : h .count < 2 ^ 9
+  pub count : h .count ≤ contactsMost
   pub offset : h .offset .0 < 2 ^ 61
 
 pub record ContactFits (c : Contact) : Type 0 where

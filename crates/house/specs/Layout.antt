@@ -31,6 +31,10 @@ dismissed = 3
 
 -- ---- layouts
 
+-- the most contacts of a frame (#107: "The limit of 63 becomes 256.")
+abbrev pub contactsMost : ℕ
+contactsMost = 256
+
 -- "Head: kind 0 (2 bits), contact count (6), offset (61)"; #107: "The head's 6-bit count keeps its place as the low bits, and three high bits
 -- go directly after the offset, which leaves 96 zeros."
 abbrev pub headFields : Head → List Field

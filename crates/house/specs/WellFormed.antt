@@ -8,16 +8,12 @@ use lib.ListN.{length, take}
 use lib.Dec.{leb, eqb, ltb}
 use Rattle.states.specs.Table.{listed}
 use Rattle.house.specs.Fields.{recordBytes, unpacked, valueAt}
-use Rattle.house.specs.Layout.{headWidths, contactWidths, kindOf, headIn, contactOf, head, touched, cancelled}
+use Rattle.house.specs.Layout.{contactsMost, headWidths, contactWidths, kindOf, headIn, contactOf, head, touched, cancelled}
 use Rattle.house.specs.declared.Head.{Head}
 use Rattle.house.specs.declared.Contact.{Contact}
 use Rattle.house.specs.declared.Sides.{Sides}
 
--- the limits of a message: of a frame's contacts (#107: "The limit of 63 becomes 256."), of a coordinate's magnitude (S4) and a side's (S2), of
--- an orientation and of a pressure
-abbrev pub contactsMost : ℕ
-contactsMost = 256
-
+-- the limits of a message: of a coordinate's magnitude (S4) and a side's (S2), of an orientation and of a pressure
 abbrev pub placeMost : ℕ
 placeMost = 0x1FFFFFFF
 

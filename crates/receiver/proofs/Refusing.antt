@@ -20,7 +20,8 @@ use Rattle.messages.specs.Header.{headed, readMessage, clientReady, touch, head
 use Rattle.messages.specs.Bodies.{readyBy, ready, readyFlags, version}
 use Rattle.house.specs.declared.Contact.{Contact}
 use Rattle.framing.specs.Frame.{Frame, headOf}
-use Rattle.touch.specs.Limits.{mostContacts, mostFrames}
+use Rattle.house.specs.Layout.{contactsMost}
+use Rattle.touch.specs.Limits.{mostFrames}
 use Rattle.framing.specs.Format.{bodyFormat, bodyHeadFormat, frameFormat, frameHeadFormat, bodyHeadOf, countTo, offset}
 use Rattle.touch.specs.Touch.{optionalOf, present, point, flags, sides, orientation, pressure, optional, contact, frameHead, frame, touchHead, body}
 use Rattle.touch.specs.Touch as format
@@ -130,7 +131,7 @@ module _ (strictly b : Bool) where
   frame-head-tame : (first : Bool) → (first ≡ true → Listed strictly b badOffset) → Tamed (Listed strictly b) (frameHead (takenBy strictly) first)
   unfolding frameHeadFormat oneOf
   frame-head-tame first k =
-      field-tame (Listed strictly b) (countTo (takenBy strictly) mostContacts) (λ h. h .count) _ (such-tame (Listed strictly b) _ _ badCount refl u2) λ n.
+      field-tame (Listed strictly b) (countTo (takenBy strictly) contactsMost) (λ h. h .count) _ (such-tame (Listed strictly b) _ _ badCount refl u2) λ n.
       field-tame (Listed strictly b) (offset (takenBy strictly) first) (λ h. h .offset .0) _ (offset-tame first k) λ o.
       done-tame (Listed strictly b) _
 

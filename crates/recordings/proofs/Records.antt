@@ -64,10 +64,11 @@ head-law =
       back = λ h t f.
           let e = front-is (headBytes h) t (length-head h) in
           let d = drop-at (headBytes h) t 21 (length-head h) in
-          rw (head-well h t, e, eq-eqb _ _ (kind-head h), d, head-back h f);
+          rw (head-well h t f, e, eq-eqb _ _ (kind-head h), d, head-back h f);
       sound = λ l h t b e.
           let p = passed (stands head l) (headIn (take 21 l)) h (drop 21 l) t e in
-          (rw (p .1) at (head-fits (take 21 l)), rw (p .2) at (bytes-drop 21 l b));
+          let q = stood head l (p .0) in
+          (rw (p .1) at (head-fits l (q .well) (q .kind)), rw (p .2) at (bytes-drop 21 l b));
       short = exact-short headRecord head-exact;
       exact = λ x. head-exact;
     }

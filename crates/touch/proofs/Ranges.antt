@@ -17,6 +17,7 @@ use Rattle.integers.specs.Integer.{limit}
 use Rattle.fields.specs.Integers.{Integers}
 use Rattle.fields.proofs.Laws.{IntegersLaw, IntegersRange}
 use Rattle.house.specs.Twos.{Holds}
+use Rattle.house.specs.Layout.{contactsMost}
 use Rattle.house.specs.Fits.{HeadFits, ContactFits, InRange, noSides}
 use Rattle.house.specs.WellFormed.{all, has, above, placeMost, sideMost, orientationMost, pressureMost, sidesWell, atMost, contactWell}
 use Rattle.house.specs.declared.Sides.{Sides}
@@ -25,7 +26,7 @@ use Rattle.house.proofs.WellFormed.{in-range}
 use Rattle.framing.specs.Frame.{Frame, headOf}
 use Rattle.framing.proofs.Laws.{frame-law}
 use Rattle.framing.specs.Format.{frameFormat, frameHeadFormat, offset}
-use Rattle.touch.specs.Limits.{mostContacts, touchLimits}
+use Rattle.touch.specs.Limits.{touchLimits}
 use Rattle.touch.specs.Touch.{point, sides, optional, contact, frame}
 use Rattle.touch.proofs.Laws.{contact-law}
 
@@ -142,8 +143,7 @@ module _ (i : Integers) (r : IntegersRange i) where
   pub frame-holds : (judged : Bool) (f : Frame Contact) → frame i judged .Holds f → HeadFits (headOf f)
   unfolding frameFormat frameHeadFormat
   frame-holds judged f h =
-      let n = leb-true (length (f .contacts)) mostContacts (h .0 .0 .1) in
-      record { count = omega arith; offset = offset-holds judged (f .offset .0) (h .0 .1 .0) }
+      record { count = leb-true (length (f .contacts)) contactsMost (h .0 .0 .1); offset = offset-holds judged (f .offset .0) (h .0 .1 .0) }
 
   -- ---- what was read
 

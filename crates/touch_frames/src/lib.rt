@@ -20,10 +20,8 @@ ghost use Rattle.framing.specs.Format.{countTo, offset};
 ghost use Rattle.touch.specs.Touch.{contact, frameHead, frame, touchHead};
 ghost use Rattle.touch.specs.Answer.{headGot, headLength, touchHeadGot, touchHeadLength, endGot, endLength, Checks};
 
-// The most frames of a message, and the most contacts of a frame.
+// The most frames of a message.
 pub const FRAMES_MOST: u16 = 64;
-
-pub const CONTACTS_MOST: u16 = 63;
 
 // contactCount and frameCount: at most so many.
 fn read_count(rest: &[u8], most: u16, strictly: bool) -> ReadU2
@@ -60,7 +58,7 @@ fn read_offset(rest: &[u8], judged: bool, strictly: bool) -> ReadU8
 pub fn read_frame_head(rest: &[u8], judged: bool, strictly: bool) -> ReadHead
     ensures { λ r. ⌜ Answers (frameHead (takenBy strictly) judged) (now (rest .entry)) (headGot r (now (rest .entry))) (headLength r) ⌝ }
 {
-    let got_count = read_count(rest, CONTACTS_MOST, strictly);
+    let got_count = read_count(rest, house::CONTACTS_MOST, strictly);
     let ReadU2::Value(count, at_offset) = got_count else {
         return ReadHead::Refused(got_count.refusal());
     };

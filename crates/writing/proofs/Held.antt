@@ -20,7 +20,7 @@ use Rattle.house.proofs.WellFormed.{in-range}
 use Rattle.framing.specs.Frame.{Frame, headOf}
 use Rattle.fields.proofs.Laws.{taken-range}
 use Rattle.framing.specs.Format.{frameFormat, frameHeadFormat}
-use Rattle.touch.specs.Limits.{mostContacts}
+use Rattle.house.specs.Layout.{contactsMost}
 use Rattle.touch.specs.Touch.{point, sides, orientation, pressure, optional, contact, frameHead, frame}
 use Rattle.touch.proofs.Ranges.{contact-fits, contact-well, frame-holds}
 use Rattle.recordings.specs.Records.{contactRecord, frameRecords}
@@ -85,7 +85,7 @@ pub head-writes : (h : Head) → HeadFits h → frameHead taken false .Holds h
 unfolding frameHeadFormat
 head-writes h f =
     let n = f .count in
-    ((taken-range .u2 (h .count) .1 (omega (arith, n)), le-leb (h .count) mostContacts (omega (arith, n))), (taken-range .u8 (h .offset .0) .1 (f .offset), refl))
+    ((taken-range .u2 (h .count) .1 (omega (arith, n)), le-leb (h .count) contactsMost n), (taken-range .u8 (h .offset .0) .1 (f .offset), refl))
 
 pub frame-writes : (f : Frame Contact) → frameRecords .Holds f → frame taken false .Holds f
 unfolding frameFormat frameRecords

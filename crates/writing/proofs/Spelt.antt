@@ -23,7 +23,7 @@ use Rattle.messages.specs.Header.{header, headerBytes, writeMessage}
 use Rattle.messages.specs.Header as event
 use Rattle.framing.specs.Frame.{Frame, headOf, contactsBytes, frameBytes, framesBytes}
 use Rattle.framing.specs.Format.{bodyFormat, frameFormat}
-use Rattle.touch.specs.Limits.{mostContacts}
+use Rattle.house.specs.Layout.{contactsMost}
 use Rattle.touch.specs.Touch.{contact, frame, touch, touchRecord}
 use Rattle.recordings.specs.Records.{contactRecord, frameRecords, framesIn}
 use Rattle.writing.specs.TouchDraft.{messageOf}
@@ -107,7 +107,7 @@ frames-spelt (f ∷ fs) zero h = absurd h
 frames-spelt (f ∷ fs) (suc m) h = frame-more f (count fs) (framesBytes touchRecord fs) (writeSeries (λ b. frame taken b .write) false fs) (h .0) (frames-spelt fs m (h .1))
 
 -- no more than a head for each frame, and as many contacts as a frame can have
-count-most : (fs : List (Frame Contact)) (m : ℕ) → Each (λ b. frameRecords .Holds) false m fs → count fs ≤ m * (1 + mostContacts)
+count-most : (fs : List (Frame Contact)) (m : ℕ) → Each (λ b. frameRecords .Holds) false m fs → count fs ≤ m * (1 + contactsMost)
 unfolding Each count frameRecords
 count-most [] zero h = omega arith
 count-most [] (suc m) h = absurd h
@@ -117,7 +117,7 @@ count-most (f ∷ fs) (suc m) h = omega (arith, h .0 .0 .count, count-most fs m 
 -- all the records of a slice that is read as frames, and the body that they make
 pub record Spelling (time : Milliseconds) (l : List ℕ) (fs : List (Frame Contact)) : Type 0 where
   pub each : Spelt (length l / 21) l
-  pub few : length l / 21 ≤ length fs * (1 + mostContacts)
+  pub few : length l / 21 ≤ length fs * (1 + contactsMost)
   pub same : messageOf time fs ≡ header event.touch (headerBytes + length (bodyOf time (length fs) (length l / 21) l)) ++ bodyOf time (length fs) (length l / 21) l
 
 pub spelling-of : (time : Milliseconds) (l : List ℕ) (fs : List (Frame Contact)) (t : List ℕ) → Bytes l → framesIn l ≡ got fs t → Spelling time l fs

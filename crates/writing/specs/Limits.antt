@@ -1,6 +1,7 @@
 -- How many records a message can be of: a head for each frame, and its contacts.
 use Prim.Native.Nat.{ℕ, _+_, _*_}
-use Rattle.touch.specs.Limits.{mostFrames, mostContacts}
+use Rattle.house.specs.Layout.{contactsMost}
+use Rattle.touch.specs.Limits.{mostFrames}
 
 abbrev pub mostSpelt : ℕ
-mostSpelt = mostFrames * (1 + mostContacts)
+mostSpelt = mostFrames * (1 + contactsMost)

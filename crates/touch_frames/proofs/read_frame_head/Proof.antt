@@ -9,7 +9,7 @@ use denote.Ref.{now}
 use mathlib.Core.Bool.{Bool}
 use Rattle.formats.proofs.Steps.{step, stop, Stepped}
 use Rattle.fields.specs.Integers.{Integers, takenBy}
-use Rattle.touch.specs.Limits.{mostContacts}
+use Rattle.house.specs.Layout.{contactsMost}
 use Rattle.framing.specs.Format.{frameHeadFormat, countTo, offset}
 use Rattle.touch.proofs.Reading.{first}
 use Rattle.touch_frames.proofs.read_frame_head.Statement.{statement}
@@ -34,8 +34,8 @@ up c = c .before .before .before .before .before
 abbrev at-end : tie.After-known-told2 → ℕ
 at-end c = at-offset (up c) + c .before .got-offset .given .0 .1 .0
 
-count-read : (c : tie.After-known-told) → Stepped (countTo (ints c) mostContacts) (lent c) 0 (c .before .got-count .given .0 .0) (at-offset c)
-count-read c = first (countTo (ints c) mostContacts) (lent c) _ _ (rw (c .before .got-count .given .1) at (c .before .before .before .read-count .ensures))
+count-read : (c : tie.After-known-told) → Stepped (countTo (ints c) contactsMost) (lent c) 0 (c .before .got-count .given .0 .0) (at-offset c)
+count-read c = first (countTo (ints c) contactsMost) (lent c) _ _ (rw (c .before .got-count .given .1) at (c .before .before .before .read-count .ensures))
 
 offset-read : (c : tie.After-known-told2) → Stepped (offset (ints (up c)) (judged (up c))) (lent (up c)) (at-offset (up c)) (c .before .got-offset .given .0 .0) (at-end c)
 offset-read c =

@@ -115,14 +115,21 @@ dismissedBy r id = quiet (ofParts (marksOf r) (dismissArrays (arraysOf r) id)) (
 abbrev pub takes : Receiver → List ℕ
 takes r = cond (off (r .ready)) (clientReady ∷ []) (touch ∷ dismiss ∷ [])
 
-abbrev pub bodyEffect : Receiver → ℕ → List ℕ → Got Effect
-bodyEffect r e b =
+-- where the body of a touch message is read so
+abbrev pub bodyEffectBy : (Bool → List ℕ → Got Touch) → Receiver → ℕ → List ℕ → Got Effect
+bodyEffectBy read r e b =
     cond (eqb e clientReady) (andThen (whole ready trailing b) (λ s t. got (settled r s) t))
-    (cond (eqb e touch) (andThen (body taken (judged r) b) (λ m t. got (touched r m) t))
+    (cond (eqb e touch) (andThen (read (judged r) b) (λ m t. got (touched r m) t))
     (andThen (whole byte trailing b) (λ id t. got (dismissedBy r id) t)))
 
+abbrev pub bodyEffect : Receiver → ℕ → List ℕ → Got Effect
+bodyEffect = bodyEffectBy (body taken)
+
+abbrev pub effectBy : (Bool → List ℕ → Got Touch) → Receiver → List ℕ → Got Effect
+effectBy read r l = andThen (headed (takes r) l) (bodyEffectBy read r)
+
 unfoldable pub effect : Receiver → List ℕ → Got Effect
-effect r l = andThen (headed (takes r) l) (bodyEffect r)
+effect r l = effectBy (body taken) r l
 
 -- ---- what is answered and left
 

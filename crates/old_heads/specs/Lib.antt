@@ -1,0 +1,3 @@
+-- Heads as they were before #107.
+pub mod OldHeads
+pub mod Standing

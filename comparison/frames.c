@@ -130,10 +130,11 @@ static void append_some(struct draft *draft, unsigned count)
 {
 	while (count-- > 0) {
 		const bool full = draft->active >= draft->twin->most && !random_chance(draft->random, 10);
-		unsigned id = pick(draft, full || random_chance(draft->random, 700));
+		const bool active = full || random_chance(draft->random, 700);
+		unsigned id = pick(draft, active);
 
 		if (id == NO_ID && !full)
-			id = pick(draft, false);
+			id = pick(draft, !active);
 		if (id == NO_ID)
 			return;
 		append(draft, id);
@@ -316,12 +317,18 @@ static void spoil(struct draft *draft)
 	}
 }
 
+/* As a rule a crowd at most. Now and then one of the edges: where a head's count needs its high bits, where a message's needs two bytes,
+ * and the greatest. */
 static unsigned choose_count(struct random *random, const struct habits *habits)
 {
+	static const unsigned edges[] = { 63, 64, 127, 128, 255, FRAME_CONTACTS_MOST };
+
 	if (random_chance(random, 20))
-		return FRAME_CONTACTS_MOST;
+		return RANDOM_OF(random, edges);
 	if (random_chance(random, 20))
 		return 0;
+	if (random_chance(random, habits->full))
+		return habits->crowd;
 	return random_below(random, habits->crowd + 1);
 }
 

@@ -6,13 +6,14 @@
 #include "twin.h"
 #include "wire.h"
 
-enum { FRAME_CONTACTS_MOST = 63 };
+enum { FRAME_CONTACTS_MOST = 256 };
 
 /* What one bench file's client is like. Chances are in 1000. */
 struct habits {
 	unsigned pool;          /* how many ids it uses */
 	bool high;              /* they end at 255, instead of beginning at 0 */
 	unsigned crowd;         /* contacts in a frame, as a rule at most */
+	unsigned full;          /* chance that a frame has just so many */
 	unsigned reach;         /* where contacts are: 0 close to the origin, 1 on a screen, 2 at the ends of the integers' lengths */
 	unsigned lift;          /* chance that a contact that is touched is lifted */
 	unsigned spoil;         /* chance that a frame is made not to conform */

@@ -3,6 +3,9 @@
  * A receiver follows what is written, so that each message can go on from where the history stands. Most messages are what a
  * client may send; between them stand damaged ones, and ones at both sides of every limit.
  *
+ * One client in seven is a wall panel: its frames have up to 64, 127, 128, 255 or 256 contacts, four in ten of them just so many, and as a
+ * rule all may be active at once. Of the other clients one frame in fifty is to have 63 to 256, as far as their ids and limit allow.
+ *
  * While frames are ignored, the next one opens or almost does, by 0x19 alone or by contacts that hover, with ids just inside the set that
  * is kept then or just outside it, or it makes ids of the set leave; and dismissals come twice as often.
  *
@@ -57,18 +60,21 @@ static uint64_t off_by_one(struct random *random, uint64_t count)
 	return count == 0 || random_chance(random, 500) ? count + 1 : count - 1;
 }
 
-/* A frame with a flaw in it, or none if the flaw is not one of a frame. */
+/* A frame with a flaw in it, or none if the flaw is not one of a frame. Contacts that are only there to be too many have no optional fields,
+ * so that they fit into a message. */
 static void write_flawed(struct history *history, struct wire *wire, struct frame *frame, enum flaw flaw)
 {
-	static const unsigned counts[] = { 0, 64, 65, 127, 128, 0x7FFF };
+	static const unsigned counts[] = { 0, 63, 64, 127, 128, 255, 256, 257, 258, 319, 320, 511, 512, 513, 0x7FFF };
 	struct random *random = &history->random;
+	struct habits bare = history->habits;
 	uint64_t count = frame->count;
 
+	bare.present = 0;
 	if (flaw == BAD_VALUE && frame->count > 0)
 		put_bad_value(random, &frame->contact[random_below(random, frame->count)]);
 	if (flaw == MANY_CONTACTS) {
 		while (frame->count <= FRAME_CONTACTS_MOST)
-			frames_stray(random, &history->habits, &frame->contact[frame->count++]);
+			frames_stray(random, &bare, &frame->contact[frame->count++]);
 		count = frame->count;
 	}
 	if (flaw == OTHER_CONTACTS)
@@ -148,6 +154,7 @@ static void make_touch(struct history *history, struct wire *wire, enum flaw fla
  * those of the frames that fill it, and the two in front of them. */
 static void make_longest(struct history *history, struct wire *wire)
 {
+	static const unsigned crowds[] = { 63, FRAME_CONTACTS_MOST };
 	static struct wire body;
 	struct habits habits = history->habits;
 	struct random *random = &history->random;
@@ -158,7 +165,7 @@ static void make_longest(struct history *history, struct wire *wire)
 		bytes++;
 	wire_start(&body);
 	body.padding = wire->padding;
-	history->habits.crowd = FRAME_CONTACTS_MOST;
+	history->habits.crowd = RANDOM_OF(random, crowds);
 	frames = write_frames(history, &body, 8, SOUND);
 	frames = write_strays(history, &body, frames);
 	history->habits = habits;

@@ -1,5 +1,22 @@
 #include "history.h"
 
+/* Makes a client a wall panel: it uses all ids, and many of them in a frame. Most are sent without optional fields, so that a message has
+ * room for more than one such frame. */
+static void choose_wall(struct history *history)
+{
+	static const unsigned mosts[] = { 255, 256, 65535 }, crowds[] = { 64, 127, 128, 255, 256, 256 }, spoils[] = { 5, 30, 150 };
+	struct random *random = &history->random;
+	struct habits *habits = &history->habits;
+
+	history->most = RANDOM_OF(random, mosts);
+	habits->pool = 256;
+	habits->crowd = RANDOM_OF(random, crowds);
+	habits->full = 400;
+	habits->spoil = RANDOM_OF(random, spoils);
+	if (random_chance(random, 700))
+		habits->present = 0;
+}
+
 static void choose_habits(struct history *history)
 {
 	static const unsigned mosts[] = { 0, 1, 2, 3, 10, 63, 64, 255, 256, 65535 };
@@ -24,6 +41,8 @@ static void choose_habits(struct history *history)
 		.pad = RANDOM_OF(random, pads),
 		.present = random_chance(random, 700) ? 7 : random_below(random, 8),
 	};
+	if (random_chance(random, 150))
+		choose_wall(history);
 }
 
 void history_start(struct history *history, uint64_t seed)

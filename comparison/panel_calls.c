@@ -216,19 +216,23 @@ static void play_frames(struct play *play, struct touch *touch, struct twin *ahe
 	}
 }
 
-/* Frames that should be legal, at both sides of how long a message may be: large ones, then small ones, then empty ones. */
+/* Frames that should be legal, at both sides of how long a message may be: large ones, then smaller ones, then empty ones. */
 static void play_longest(struct play *play, struct touch *touch, size_t most)
 {
+	static const struct {
+		unsigned crowd;
+		unsigned frames;
+	} steps[] = { { FRAME_CONTACTS_MOST, 2 }, { 63, 14 }, { 2, 24 } };
 	struct habits *habits = &play->history.habits;
 	const struct habits usual = *habits;
 	struct twin ahead = play->history.twin;
 	bool fits = true;
 
 	habits->spoil = 0;
-	habits->crowd = FRAME_CONTACTS_MOST;
-	play_frames(play, touch, &ahead, 16, most, true);
-	habits->crowd = 2;
-	play_frames(play, touch, &ahead, 24, most, true);
+	for (size_t i = 0; i < sizeof steps / sizeof steps[0]; i++) {
+		habits->crowd = steps[i].crowd;
+		play_frames(play, touch, &ahead, steps[i].frames, most, true);
+	}
 	*habits = usual;
 	while (fits && touch->frames < FRAMES_MOST && touch->body.n + EMPTY_FRAME_LEAST <= most) {
 		struct frame frame;

@@ -102,6 +102,8 @@ void records_spoil_bytes(struct random *random, struct wire *wire, const struct 
 
 	if (random_chance(random, 500))
 		wire->n -= 1 + random_below(random, KANGIRLO_RECORD_BYTES - 1);
+	else if (records->record[which].kind == KANGIRLO_HEAD && random_chance(random, 500))
+		at[8] ^= (uint8_t)(1u << random_below(random, 3));
 	else if (records->record[which].kind == KANGIRLO_HEAD)
 		at[9 + random_below(random, KANGIRLO_RECORD_BYTES - 9)] |= (uint8_t)(1u << random_below(random, 8));
 	else

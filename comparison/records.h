@@ -22,7 +22,8 @@ void records_spoil(struct random *random, struct records *records);
 /* Appends their bytes. */
 void records_write(struct wire *wire, const struct records *records);
 
-/* Cuts into the last of the records that end here, or sets an unused bit in one of them. */
+/* Cuts into the last of the records that end here, or sets an unused bit in one of them, or changes one of the three high bits of a head's
+ * count, which then is over 256 or not that of its contacts. */
 void records_spoil_bytes(struct random *random, struct wire *wire, const struct records *records);
 
 #endif

@@ -23,9 +23,9 @@ enum refusal {
 	NO_ROOM = 13
 };
 
-/* 01, "Messages" */
+/* 01, "Messages"; of contacts 02, "Frames of up to 256 contacts" */
 enum event { CLIENT_READY = 2, TOUCH = 3, DISMISS = 6 };
-enum { HEADER_BYTES = 6, FRAMES_MOST = 64, FRAME_CONTACTS_MOST = 63 };
+enum { HEADER_BYTES = 6, FRAMES_MOST = 64, FRAME_CONTACTS_MOST = 256 };
 enum { SIDES = 1, ORIENTATION = 2, PRESSURE = 4 };
 enum { ORIENTATION_MOST = 359, PRESSURE_MOST = 65000 };
 
@@ -296,10 +296,11 @@ static void put_big64(uint8_t *at, uint64_t value)
 	put_big32(at + 4, (uint32_t)value);
 }
 
+/* 02: the low 6 bits of the count where all of it was, and its three high bits directly after the offset. */
 static void put_head(uint8_t *at, const struct frame *frame)
 {
-	at[0] = (uint8_t)(HEAD << 6 | frame->count);
-	put_big64(at + 1, frame->offset << 3);
+	at[0] = (uint8_t)(HEAD << 6 | (frame->count & 0x3F));
+	put_big64(at + 1, frame->offset << 3 | frame->count >> 6);
 	memset(at + 9, 0, TWIN_RECORD_BYTES - 9);
 }
 

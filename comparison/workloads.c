@@ -5,15 +5,18 @@
  * frames   64 frames of one contact a message, with the contact's sides: down, 62 updates, up
  * refused  messages like those of ten, each with one fault, most of them in the last contact
  * padded   the messages of ten, each integer a byte longer than it need be where it can be
+ * bare     one frame of ten contacts a message, no optional fields: down, 98 updates, up
+ * wall     one frame of 256 contacts a message, as a wall panel sends it: otherwise those of bare, so that a contact of the one can be held
+ *          against a contact of the other
  *
- * All integers of the first four are the shortest. */
+ * All integers but those of padded are the shortest. */
 #include "wire.h"
 
 #include <stdio.h>
 #include <stdlib.h>
 #include <string.h>
 
-enum { STROKE = 100, FRAMES = 64, TEN = 10, MICROSECONDS = 8333 };
+enum { STROKE = 100, FRAMES = 64, TEN = 10, ALL = 256, MICROSECONDS = 8333 };
 
 /* A contact at one step of a stroke: a line across the screen, with the fields changing a little on the way. */
 static struct wire_contact at_step(unsigned finger, unsigned step, unsigned steps, uint32_t present)
@@ -76,6 +79,16 @@ static void make_padded(struct wire *wire, unsigned i)
 	make_step(wire, i == 0, TEN, i % STROKE, 7, WIRE_BY_ONE);
 }
 
+static void make_bare(struct wire *wire, unsigned i)
+{
+	make_step(wire, i == 0, TEN, i % STROKE, 0, WIRE_SHORTEST);
+}
+
+static void make_wall(struct wire *wire, unsigned i)
+{
+	make_step(wire, i == 0, ALL, i % STROKE, 0, WIRE_SHORTEST);
+}
+
 static void make_frames(struct wire *wire, unsigned i)
 {
 	start_touch(wire, FRAMES, WIRE_SHORTEST);
@@ -133,8 +146,10 @@ static void make_refused(struct wire *wire, unsigned i)
 static const struct workload {
 	const char *name;
 	void (*make)(struct wire *, unsigned);
+	unsigned most;          /* contacts that may be active at once */
 } workloads[] = {
-	{ "one", make_one }, { "ten", make_ten }, { "frames", make_frames }, { "refused", make_refused }, { "padded", make_padded },
+	{ "one", make_one, TEN },       { "ten", make_ten, TEN },   { "frames", make_frames, TEN }, { "refused", make_refused, TEN },
+	{ "padded", make_padded, TEN }, { "bare", make_bare, TEN }, { "wall", make_wall, ALL },
 };
 
 static void write_all(const struct workload *workload, unsigned entries)
@@ -142,7 +157,7 @@ static void write_all(const struct workload *workload, unsigned entries)
 	static struct wire wire;
 
 	wire_start(&wire);
-	wire_ready(&wire, 0, 0x00010001, TEN);
+	wire_ready(&wire, 0, 0x00010001, workload->most);
 	wire_entry(&wire, stdout);
 	for (unsigned i = 0; i < entries; i++) {
 		workload->make(&wire, i);
@@ -158,6 +173,6 @@ int main(int argc, char **argv)
 		write_all(&workloads[i], (unsigned)strtoul(argv[2], NULL, 10));
 		return fflush(stdout) == 0 && !ferror(stdout) ? 0 : 2;
 	}
-	fputs("usage: workloads one|ten|frames|refused|padded ENTRIES > FILE\n", stderr);
+	fputs("usage: workloads one|ten|frames|refused|padded|bare|wall ENTRIES > FILE\n", stderr);
 	return 2;
 }

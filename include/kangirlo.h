@@ -33,22 +33,23 @@ enum kangirlo_refusal {
 	KANGIRLO_BAD_LENGTH = 4,    /* pduLength differs from how many bytes there are */
 	KANGIRLO_TRUNCATED = 5,     /* the body ends inside a field, or before one that is due */
 	KANGIRLO_NOT_SHORTEST = 6,  /* an integer that is longer than it need be, or minus zero; by kangirlo_plain_strictly alone */
-	KANGIRLO_BAD_COUNT = 7,     /* frames over 64, contacts over 63 */
+	KANGIRLO_BAD_COUNT = 7,     /* frames over 64, contacts of a frame over 256 */
 	KANGIRLO_BAD_FIELD = 8,     /* version, ready flags or fieldsPresent not listed */
 	KANGIRLO_BAD_FLAGS = 9,     /* contactFlags not in the state table */
 	KANGIRLO_BAD_RANGE = 10,    /* orientation, pressure; a value given to a writer */
 	KANGIRLO_BAD_OFFSET = 11,   /* the first frame's offset is not 0 */
 	KANGIRLO_TRAILING = 12,     /* bytes after the last field */
 	KANGIRLO_NO_ROOM = 13,      /* output shorter than what the call writes; fewer places than choices */
-	KANGIRLO_BAD_RECORD = 14,   /* a record that is not well formed; for a label also one that breaks its frame or the state table */
+	KANGIRLO_BAD_RECORD = 14,   /* a record that is not well formed, a head over 256 contacts too; for a label also one that breaks its
+	                             * frame or the state table */
 	KANGIRLO_NOT_READY = 15,    /* client ready before server ready was taken, or again; touch or dismiss before client ready */
 	KANGIRLO_SUSPENDED = 16,    /* touch while suspended */
 	KANGIRLO_ILLEGAL = 17,      /* a frame that would not conform; a dismissal of a contact that is not hovering */
 	KANGIRLO_BAD_BATCH = 18     /* a batch whose last entry is incomplete, or that has more entries than places for answers */
 };
 
-/* The limits: a message, a record, and the most that one message makes a receiver write. */
-enum { KANGIRLO_MESSAGE_MOST = 4096, KANGIRLO_RECORD_BYTES = 21, KANGIRLO_OUTPUT_MOST = 49152 };
+/* The limits: a message, the contacts of a frame, a record, and the most that one message makes a receiver write. */
+enum { KANGIRLO_MESSAGE_MOST = 4096, KANGIRLO_CONTACTS_MOST = 256, KANGIRLO_RECORD_BYTES = 21, KANGIRLO_OUTPUT_MOST = 49152 };
 
 /* The kinds of a record: a frame's head, a frame's contact, a cancel, a dismissal. */
 enum kangirlo_kind { KANGIRLO_HEAD = 0, KANGIRLO_CONTACT = 1, KANGIRLO_CANCEL = 2, KANGIRLO_DISMISSAL = 3 };
@@ -179,7 +180,7 @@ struct kangirlo_panel_said {
 struct kangirlo_record {
 	uint8_t refusal;        /* 14: fewer than 21 bytes, or not well formed; every other field is 0 */
 	uint8_t kind;
-	uint16_t count;         /* of a head: how many contacts follow */
+	uint16_t count;         /* of a head: how many contacts follow, 0 to 256 */
 	uint8_t flags;
 	uint8_t present;        /* which optional fields there are: 1 the sides, 2 orientation, 4 pressure */
 	uint8_t id;
@@ -312,7 +313,8 @@ struct kangirlo_plain_answer kangirlo_plain_strictly(const uint8_t *message, siz
 
 /* The six writers: each writes its whole message from the output's first byte and touches nothing past it. Integers are the shortest.
  * The ready writers refuse a version or a flag that is not listed by 8; write_touch takes heads and contacts (kinds 0 and 1), each
- * head followed by its count of contacts, and refuses by 10, 14, 7, 2; all refuse too little room by 13. */
+ * head followed by its count of contacts, and refuses by 10, 14, 7, 2, of which 7 is of frames over 64: a head over 256 contacts is no
+ * well-formed record, and 14. All refuse too little room by 13. */
 struct kangirlo_written kangirlo_write_server_ready(uint8_t *output, size_t room, uint32_t version);
 struct kangirlo_written kangirlo_write_client_ready(uint8_t *output, size_t room, uint32_t flags, uint32_t version, uint16_t most);
 struct kangirlo_written kangirlo_write_touch(uint8_t *output, size_t room, struct kangirlo_milliseconds time, const uint8_t *records,
@@ -321,7 +323,9 @@ struct kangirlo_written kangirlo_write_suspend(uint8_t *output, size_t room);
 struct kangirlo_written kangirlo_write_resume(uint8_t *output, size_t room);
 struct kangirlo_written kangirlo_write_dismiss(uint8_t *output, size_t room, uint8_t id);
 
-/* Reads the record at the front of some bytes. */
+/* Reads the record at the front of some bytes. A head has bits, the most significant first, for its kind, 0 (2), the low bits of its count
+ * (6), its offset (61), the high bits of its count (3), and 96 zeros. One of 63 contacts or fewer is what it was when 63 were the most that a
+ * frame had: those high bits were zeros then. */
 struct kangirlo_record kangirlo_read_record(const uint8_t *records, size_t length);
 
 /* ---- The panel's end: libkangirlo_panel.a. What a panel writes, delivered in order to a fresh receiver with room, is never

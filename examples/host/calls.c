@@ -2,6 +2,7 @@
  * proved; this is for the boundary. Ends with 'N passed, M failed'. */
 #include "apart.h"
 #include "expect.h"
+#include "head.h"
 #include "kangirlo.h"
 
 #include <string.h>
@@ -207,6 +208,132 @@ static void test_padded(const struct way *way)
 	EXPECT(r.states[1] == 2 && r.xs[1] == 0 && r.ys[1] == 0 && record_at(1).x == 0 && record_at(1).y == 0);
 	EXPECT(answers(way->receive(&r, longest, sizeof longest, output, sizeof output), KANGIRLO_TAKEN, 1, 0, 0, 70, 2));
 	EXPECT(r.states[3] == 1 && r.xs[3] == -50 && r.ys[3] == 900 && record_at(0).offset.value == 40 && record_at(1).pressure == 40000);
+}
+
+/* Counts at both sides of what the low bits of a head's count hold, and one byte of a message's, up to the greatest. */
+static const unsigned wall_counts[] = {63, 64, 127, 128, 255, KANGIRLO_CONTACTS_MOST};
+
+enum { WALL_COUNTS = sizeof wall_counts / sizeof *wall_counts, OVER = KANGIRLO_CONTACTS_MOST + 1 };
+
+/* A message of one frame of so many contacts, in five bytes each: contact i at i modulo 32, i / 32. */
+struct wall {
+	size_t length;
+	uint8_t bytes[12 + 5 * OVER];
+};
+
+static struct wall wall(unsigned count, uint8_t flags)
+{
+	struct wall m = {8, {3, 0, 0, 0, 0, 0, 0, 1}};
+
+	if (count > 127)
+		m.bytes[m.length++] = (uint8_t)(0x80 | count >> 8);
+	m.bytes[m.length++] = (uint8_t)count;
+	m.bytes[m.length++] = 0;
+	for (unsigned i = 0; i < count; i++) {
+		const uint8_t contact[] = {(uint8_t)i, 0, i % 32, (uint8_t)(i % 256 / 32), flags};
+
+		memcpy(m.bytes + m.length, contact, sizeof contact);
+		m.length += sizeof contact;
+	}
+	m.bytes[2] = (uint8_t)m.length;
+	m.bytes[3] = (uint8_t)(m.length >> 8);
+	return m;
+}
+
+static struct kangirlo_answer receive_wall(const struct way *way, struct kangirlo_receiver *r, unsigned count, uint8_t flags, size_t room)
+{
+	const struct wall m = wall(count, flags);
+
+	return way->receive(r, m.bytes, m.length, output, room);
+}
+
+/* A receiver of which all 256 contacts may be active. */
+static struct kangirlo_receiver ready_for_all(const struct way *way)
+{
+	static const uint8_t client[] = {2, 0, 16, 0, 0, 0, 0, 0, 0, 0, 1, 0, 1, 0, 0, 1};
+	struct kangirlo_receiver r = kangirlo_fresh();
+
+	EXPECT(answers(way->receive(&r, client, sizeof client, output, sizeof output), KANGIRLO_TAKEN, 0, 0, 0, 0, 0));
+	EXPECT(r.settings.most == KANGIRLO_CONTACTS_MOST);
+	return r;
+}
+
+/* Whether the first contacts are in this state where a wall has them, and the others out. */
+static int has_contacts(const struct kangirlo_receiver *r, unsigned count, uint8_t state)
+{
+	for (unsigned i = 0; i < 256; i++) {
+		const int in = i < count;
+
+		if (r->states[i] != (in ? state : 0) || r->xs[i] != (in ? (int)i % 32 : 0) || r->ys[i] != (in ? (int)i / 32 : 0))
+			return 0;
+	}
+	return 1;
+}
+
+/* Whether the output has so many records of this kind and these flags from one on, of contacts by rising id where a wall has them. */
+static int wrote_contacts(size_t from, unsigned count, uint8_t kind, uint8_t flags)
+{
+	for (unsigned i = 0; i < count; i++) {
+		const struct kangirlo_record c = record_at(from + i);
+
+		if (c.refusal != KANGIRLO_TAKEN || c.kind != kind || c.flags != flags || c.id != i || c.x != (int)i % 32 || c.y != (int)i / 32)
+			return 0;
+	}
+	return 1;
+}
+
+static int wrote_wall(unsigned count, uint8_t flags)
+{
+	return record_at(0).refusal == KANGIRLO_TAKEN && record_at(0).kind == KANGIRLO_HEAD && record_at(0).count == count
+	       && wrote_contacts(1, count, KANGIRLO_CONTACT, flags);
+}
+
+/* Frames of a wall panel come down and are lifted; one contact more than the greatest has is refused. */
+static void test_wall(const struct way *way)
+{
+	for (unsigned i = 0; i < WALL_COUNTS; i++) {
+		const unsigned count = wall_counts[i], records = 1 + count;
+		struct kangirlo_receiver r = ready_for_all(way);
+
+		EXPECT(answers(receive_wall(way, &r, count, 0x19, records * KANGIRLO_RECORD_BYTES - 1), KANGIRLO_NO_ROOM, 0, 0, 0, 0, 0));
+		EXPECT(r.begun == 0 && has_contacts(&r, 0, 0));
+		EXPECT(answers(receive_wall(way, &r, count, 0x19, records * KANGIRLO_RECORD_BYTES), KANGIRLO_TAKEN, 1, 0, 0, 0, records));
+		EXPECT(wrote_wall(count, 0x19) && has_contacts(&r, count, 2));
+		EXPECT(answers(receive_wall(way, &r, OVER, 0x1A, sizeof output), KANGIRLO_BAD_COUNT, 0, 0, 0, 0, 0));
+		EXPECT(has_contacts(&r, count, 2));
+		EXPECT(answers(receive_wall(way, &r, count, 0x04, sizeof output), KANGIRLO_TAKEN, 1, 0, 0, 0, records));
+		EXPECT(wrote_wall(count, 0x04) && has_contacts(&r, 0, 0));
+	}
+}
+
+static int holds_all(const uint8_t held[256])
+{
+	uint8_t all[256];
+
+	memset(all, 1, sizeof all);
+	return memcmp(held, all, sizeof all) == 0;
+}
+
+/* All 256 contacts are cancelled and held: the same frame that hovers is ignored, one that comes down opens, and one that has an id twice in
+ * its first and last contact is cancelled. */
+static void test_wall_cancelled(const struct way *way)
+{
+	const unsigned all = KANGIRLO_CONTACTS_MOST;
+	struct kangirlo_receiver r = ready_for_all(way);
+	struct wall twice = wall(all, 0x19);
+
+	EXPECT(answers(receive_wall(way, &r, all, 0x0A, sizeof output), KANGIRLO_TAKEN, 1, 0, 0, 0, 1 + all) && has_contacts(&r, all, 1));
+	EXPECT(answers(receive_wall(way, &r, all, 0x1A, all * KANGIRLO_RECORD_BYTES - 1), KANGIRLO_NO_ROOM, 0, 0, 0, 0, 0));
+	EXPECT(has_contacts(&r, all, 1) && holds_none(r.held));
+	EXPECT(answers(receive_wall(way, &r, all, 0x1A, all * KANGIRLO_RECORD_BYTES), KANGIRLO_TAKEN, 0, 0, 1, 0, all));
+	EXPECT(wrote_contacts(0, all, KANGIRLO_CANCEL, 0x22) && has_contacts(&r, 0, 0) && r.ignoring == 1 && holds_all(r.held));
+	EXPECT(answers(receive_wall(way, &r, all, 0x0A, 0), KANGIRLO_TAKEN, 0, 1, 0, 0, 0) && holds_all(r.held));
+	EXPECT(answers(receive_wall(way, &r, all, 0x19, sizeof output), KANGIRLO_TAKEN, 1, 0, 0, 0, 1 + all) && has_contacts(&r, all, 2));
+	EXPECT(r.ignoring == 0 && holds_none(r.held));
+	EXPECT(answers(receive_wall(way, &r, all, 0x04, sizeof output), KANGIRLO_TAKEN, 1, 0, 0, 0, 1 + all) && has_contacts(&r, 0, 0));
+	twice.bytes[twice.length - 5] = 0;
+	EXPECT(answers(way->receive(&r, twice.bytes, twice.length, output, sizeof output), KANGIRLO_TAKEN, 0, 0, 1, 0, 0));
+	EXPECT(r.ignoring == 1 && r.held[0] == 1 && r.held[254] == 1 && r.held[255] == 0);
 }
 
 /* Puts an entry behind those before: a message's length, and its bytes. Answers where the next goes. */
@@ -465,6 +592,97 @@ static void test_plain_strictly(void)
 	EXPECT(refused_strictly(over, sizeof over, KANGIRLO_NOT_SHORTEST));
 }
 
+/* Frames of a wall panel, read and written back; one contact more is refused, by its count in a message, by its head in records. */
+static void test_plain_wall(void)
+{
+	static uint8_t back[KANGIRLO_MESSAGE_MOST];
+	const struct kangirlo_milliseconds time = {0};
+	const struct wall over = wall(OVER, 0x19);
+	struct kangirlo_written w;
+
+	for (unsigned i = 0; i < WALL_COUNTS; i++) {
+		const struct wall m = wall(wall_counts[i], 0x19);
+		const size_t records = 1 + wall_counts[i];
+
+		EXPECT(reads(kangirlo_plain_strictly(m.bytes, m.length, output, sizeof output), KANGIRLO_TAKEN, 0, records));
+		EXPECT(reads(kangirlo_plain(m.bytes, m.length, output, sizeof output), KANGIRLO_TAKEN, 0, records));
+		EXPECT(wrote_wall(wall_counts[i], 0x19));
+		w = kangirlo_write_touch(back, sizeof back, time, output, records * KANGIRLO_RECORD_BYTES);
+		EXPECT(w.refusal == KANGIRLO_TAKEN && w.bytes == m.length && memcmp(back, m.bytes, m.length) == 0);
+	}
+	memcpy(output + OVER * KANGIRLO_RECORD_BYTES, output + KANGIRLO_RECORD_BYTES, KANGIRLO_RECORD_BYTES);
+	head_put(output, OVER, 0);
+	w = kangirlo_write_touch(back, sizeof back, time, output, (1 + OVER) * KANGIRLO_RECORD_BYTES);
+	EXPECT(w.refusal == KANGIRLO_BAD_RECORD && w.bytes == 0);
+	EXPECT(reads(kangirlo_plain(over.bytes, over.length, output, sizeof output), KANGIRLO_BAD_COUNT, 0, 0));
+	EXPECT(refused_strictly(over.bytes, over.length, KANGIRLO_BAD_COUNT));
+}
+
+/* The touch writer's 7 is of frames alone. */
+static void test_many_frames(void)
+{
+	enum { FRAMES_MOST = 64 };
+	const struct kangirlo_milliseconds time = {0};
+	uint8_t heads[(FRAMES_MOST + 1) * KANGIRLO_RECORD_BYTES], back[8 + 2 * FRAMES_MOST];
+
+	for (unsigned i = 0; i <= FRAMES_MOST; i++)
+		head_put(heads + i * KANGIRLO_RECORD_BYTES, 0, 0);
+	EXPECT(kangirlo_write_touch(back, sizeof back, time, heads, sizeof heads).refusal == KANGIRLO_BAD_COUNT);
+	EXPECT(kangirlo_write_touch(back, sizeof back, time, heads, sizeof heads - KANGIRLO_RECORD_BYTES).bytes == sizeof back);
+}
+
+/* Whether a record is not well formed, and nothing of it is read. */
+static int is_no_record(const uint8_t bytes[KANGIRLO_RECORD_BYTES])
+{
+	const struct kangirlo_record read = kangirlo_read_record(bytes, KANGIRLO_RECORD_BYTES);
+
+	return read.refusal == KANGIRLO_BAD_RECORD && read.kind == 0 && read.count == 0 && read.offset.value == 0 && read.flags == 0
+	       && read.id == 0;
+}
+
+static int is_head(const uint8_t bytes[KANGIRLO_RECORD_BYTES], unsigned count, uint64_t offset)
+{
+	const struct kangirlo_record read = kangirlo_read_record(bytes, KANGIRLO_RECORD_BYTES);
+
+	return read.refusal == KANGIRLO_TAKEN && read.kind == KANGIRLO_HEAD && read.count == count && read.offset.value == offset
+	       && read.flags == 0 && read.present == 0 && read.id == 0 && read.x == 0 && read.y == 0;
+}
+
+/* A head with each of its 96 unused bits set. */
+static int needs_zeros(unsigned count, uint64_t offset)
+{
+	uint8_t head[KANGIRLO_RECORD_BYTES];
+
+	for (unsigned bit = 72; bit < 8 * KANGIRLO_RECORD_BYTES; bit++) {
+		head_put(head, count, offset);
+		head[bit / 8] |= (uint8_t)(0x80 >> bit % 8);
+		if (!is_no_record(head))
+			return 0;
+	}
+	return 1;
+}
+
+/* Every count that a head's nine bits can say, and one of a file from when it had six. */
+static void test_heads(void)
+{
+	static const uint64_t offsets[] = {0, 1, 8333, UINT64_C(0x1FFFFFFFFFFFFFFF)};
+	static const uint8_t old[KANGIRLO_RECORD_BYTES] = {63, 0, 0, 0, 0, 0, 0x01, 0x04, 0x68};
+	uint8_t head[KANGIRLO_RECORD_BYTES];
+
+	for (size_t i = 0; i < sizeof offsets / sizeof *offsets; i++) {
+		int good = 1;
+
+		for (unsigned count = 0; count < 512; count++) {
+			head_put(head, count, offsets[i]);
+			good = good && (count <= KANGIRLO_CONTACTS_MOST ? is_head(head, count, offsets[i]) : is_no_record(head));
+		}
+		EXPECT(good);
+		EXPECT(needs_zeros(0, offsets[i]) && needs_zeros(63, offsets[i]) && needs_zeros(64, offsets[i]));
+		EXPECT(needs_zeros(KANGIRLO_CONTACTS_MOST, offsets[i]) && needs_zeros(OVER, offsets[i]) && needs_zeros(511, offsets[i]));
+	}
+	EXPECT(is_head(old, 63, 8333));
+}
+
 static int wrote(struct kangirlo_written w, const uint8_t *bytes, size_t count)
 {
 	return w.refusal == KANGIRLO_TAKEN && w.bytes == count && memcmp(output, bytes, count) == 0;
@@ -496,6 +714,10 @@ int main(void)
 	test_held_by(&direct);
 	test_padded(&whole);
 	test_padded(&direct);
+	test_wall(&whole);
+	test_wall(&direct);
+	test_wall_cancelled(&whole);
+	test_wall_cancelled(&direct);
 	test_batch(&whole);
 	test_batch(&direct);
 	test_marks();
@@ -503,6 +725,9 @@ int main(void)
 	test_batch_parts();
 	test_plain();
 	test_plain_strictly();
+	test_plain_wall();
+	test_many_frames();
+	test_heads();
 	test_writers();
 	return expect_end();
 }

@@ -3,13 +3,14 @@
  * passed, M failed'. */
 #include "batch.h"
 #include "expect.h"
+#include "head.h"
 #include "kangirlo.h"
 #include "label_apart.h"
 
 #include <string.h>
 
 /* More places than any of the lists of records here has records, so that nothing is counted where all are lent. */
-enum { PLACES = 16, NUMBERS = 2 * PLACES, UNTOUCHED = 0xA5 };
+enum { PLACES = BATCH_MOST / KANGIRLO_RECORD_BYTES + 1, NUMBERS = 2 * PLACES, UNTOUCHED = 0xA5 };
 
 /* The button at the front covers the middle of the other two, which have an edge in common. */
 enum { FRONT, LEFT, RIGHT, BUTTONS };
@@ -259,18 +260,78 @@ static void test_order(void)
  * again with more. */
 static void test_room(void)
 {
+	enum { FEW = 16 };
 	struct batch batch = two_choices(), none = {0};
 
 	put(&batch, HOVER, 9, 10, 10);
-	EXPECT(batch.length / KANGIRLO_RECORD_BYTES < PLACES);
+	EXPECT(batch.length / KANGIRLO_RECORD_BYTES < FEW);
 	begin();
 	for (size_t room = 0; room < KANGIRLO_CHOICE_NUMBERS(2); room++)
 		EXPECT(refused_in(room, batch.bytes, batch.length, KANGIRLO_NO_ROOM));
 	EXPECT(label.states[9] == 0);
-	for (size_t room = KANGIRLO_CHOICE_NUMBERS(2); room <= NUMBERS; room++)
+	for (size_t room = KANGIRLO_CHOICE_NUMBERS(2); room <= KANGIRLO_CHOICE_NUMBERS(FEW); room++)
 		EXPECT(chose_in(room, &batch, 2) && is_choice(0, 200, 90) && is_choice(1, 0, 80) && label.states[9] == 1);
 	EXPECT(does(DOWN, 1, 10, 10, 0));
 	EXPECT(chose_in(0, &none, 0) && label.states[1] == 2 && label.pressed[1] == LEFT + 1);
+}
+
+/* A frame of so many contacts at the same point of the left button, behind those before. */
+static void put_wall(struct batch *batch, unsigned count, enum batch_flags flags)
+{
+	batch_head(batch, (uint16_t)count, 0);
+	for (unsigned i = 0; i < count; i++)
+		batch_contact(batch, flags, (uint8_t)i, 10, 10);
+}
+
+/* Whether the first contacts are in this state and have pressed this place plus 1, and the others are out. */
+static int has_contacts(unsigned count, uint8_t state, size_t pressed)
+{
+	for (unsigned i = 0; i < 256; i++)
+		if (label.states[i] != (i < count ? state : 0) || label.pressed[i] != (i < count ? pressed : 0))
+			return 0;
+	return 1;
+}
+
+/* Large frames: counts at both sides of what the low bits of a head's count hold, and of one byte, up to the greatest. */
+static void test_wall(void)
+{
+	static const unsigned counts[] = {63, 64, 127, 128, 255, KANGIRLO_CONTACTS_MOST};
+
+	for (size_t i = 0; i < sizeof counts / sizeof *counts; i++) {
+		const unsigned count = counts[i];
+		struct batch down = {0}, both = {0};
+
+		put_wall(&down, count, DOWN);
+		put_wall(&both, count, MOVE);
+		put_wall(&both, count, LIFT);
+		begin();
+		EXPECT(chose_in(0, &down, 0) && has_contacts(count, 2, LEFT + 1));
+		EXPECT(refused_in(KANGIRLO_CHOICE_NUMBERS(count) - 1, both.bytes, both.length, KANGIRLO_NO_ROOM));
+		EXPECT(chose_in(KANGIRLO_CHOICE_NUMBERS(count), &both, count) && has_contacts(0, 0, 0));
+		EXPECT(is_choice(0, 0, 80) && is_choice(62, 62, 80) && is_choice(count - 1, count - 1, 80));
+		EXPECT(chose_in(NUMBERS, &down, 0) && chose_in(NUMBERS, &both, count) && has_contacts(0, 0, 0));
+	}
+}
+
+/* The greatest frame with a contact more, legal for that contact: not by the head of 256, and not by one that says so. */
+static void test_wall_refused(void)
+{
+	static const unsigned counts[] = {255, KANGIRLO_CONTACTS_MOST, KANGIRLO_CONTACTS_MOST + 1, 258, 511};
+	struct batch batch = {0};
+
+	put_wall(&batch, KANGIRLO_CONTACTS_MOST, DOWN);
+	batch_contact(&batch, MOVE, 0, 10, 10);
+	begin();
+	for (size_t i = 0; i < sizeof counts / sizeof *counts; i++) {
+		head_put(batch.bytes, counts[i], 0);
+		EXPECT(is_bad_batch(&batch));
+	}
+	head_put(batch.bytes, KANGIRLO_CONTACTS_MOST, 0);
+	batch.length -= KANGIRLO_RECORD_BYTES;
+	batch.bytes[9] = 0x80; /* the first of the head's unused bits */
+	EXPECT(is_bad_batch(&batch));
+	batch.bytes[9] = 0;
+	EXPECT(chose_in(NUMBERS, &batch, 0) && has_contacts(KANGIRLO_CONTACTS_MOST, 2, LEFT + 1));
 }
 
 /* No button: the contacts are followed all the same. */
@@ -393,6 +454,8 @@ int main(void)
 	test_hiding();
 	test_order();
 	test_room();
+	test_wall();
+	test_wall_refused();
 	test_no_buttons();
 	test_not_whole();
 	test_out_of_place();

@@ -9,7 +9,7 @@
 #include <stdio.h>
 #include <string.h>
 
-enum { VERSION = 0x00010001, NO_TIMES = 2, FINGERS = 3 };
+enum { VERSION = 0x00010001, NO_TIMES = 2, FINGERS = 3, WALL = KANGIRLO_CONTACTS_MOST };
 
 static struct sender sender, kept;
 static struct kangirlo_receiver receiver;
@@ -66,15 +66,15 @@ static void panel_refuses(const char *what, struct kangirlo_written written, enu
 	EXPECT(ends_agree());
 }
 
-static void open_connection(uint32_t flags)
+static void open_connection(uint32_t flags, uint16_t fingers)
 {
 	sender_begin(&sender, 0);
 	kept = sender;
 	receiver = kangirlo_fresh();
-	panel_refuses("client ready before server ready", sender_ready(&sender, flags, VERSION, FINGERS), KANGIRLO_NOT_READY);
+	panel_refuses("client ready before server ready", sender_ready(&sender, flags, VERSION, fingers), KANGIRLO_NOT_READY);
 	host_sends("server ready", kangirlo_write_server_ready(from_host, sizeof from_host, VERSION));
 	panel_refuses("touch before client ready", sender_touch(&sender, 0, &nothing), KANGIRLO_NOT_READY);
-	panel_sends("client ready", sender_ready(&sender, flags, VERSION, FINGERS), &nothing);
+	panel_sends("client ready", sender_ready(&sender, flags, VERSION, fingers), &nothing);
 }
 
 static void offset_too_early(void)
@@ -187,6 +187,40 @@ static void offset_at_once(void)
 	panel_sends("a first frame with an offset", sender_touch(&sender, 4, &batch), &expected);
 }
 
+/* A wall panel: as many fingers in a frame as one may have, and two frames of them in a message. */
+static void fingers_of_a_wall(void)
+{
+	static const enum batch_flags steps[] = {DOWN, MOVE, LIFT};
+	struct batch batch = {0};
+
+	for (size_t step = 0; step < sizeof steps / sizeof *steps; step++) {
+		batch_head(&batch, WALL, step == 0 ? 0 : 8333);
+		for (unsigned i = 0; i < WALL; i++)
+			batch_contact(&batch, steps[step], (uint8_t)i, 20 * (int32_t)i + (step > 0), 500);
+		if (step == 1)
+			continue;
+		panel_sends(step == 0 ? "256 fingers down" : "256 fingers moved and lifted", sender_touch(&sender, 4, &batch), &batch);
+		batch.length = 0;
+	}
+}
+
+/* A head is packed up to the greatest count, and read as it was. */
+static void heads_packed_and_read(void)
+{
+	static const uint16_t counts[] = {0, 63, 64, 127, 128, 255, KANGIRLO_CONTACTS_MOST};
+	uint8_t bytes[KANGIRLO_RECORD_BYTES];
+	struct kangirlo_record read;
+
+	for (size_t i = 0; i < sizeof counts / sizeof *counts; i++) {
+		EXPECT(pack(&(struct kangirlo_record){.kind = KANGIRLO_HEAD, .count = counts[i], .offset = {0x1FFFFFFFFFFFFFFE}}, bytes));
+		read = kangirlo_read_record(bytes, sizeof bytes);
+		EXPECT(read.refusal == KANGIRLO_TAKEN && read.kind == KANGIRLO_HEAD && read.count == counts[i]);
+		EXPECT(read.offset.value == 0x1FFFFFFFFFFFFFFE);
+	}
+	EXPECT(!pack(&(struct kangirlo_record){.kind = KANGIRLO_HEAD, .count = KANGIRLO_CONTACTS_MOST + 1}, bytes));
+	EXPECT(kangirlo_read_record(bytes, sizeof bytes).count == KANGIRLO_CONTACTS_MOST);
+}
+
 /* What is packed here, the library reads as it was; and what does not fit is not packed. */
 static void packed_and_read(void)
 {
@@ -203,13 +237,13 @@ static void packed_and_read(void)
 	contact.x = 0x20000000;
 	EXPECT(!pack(&contact, bytes));
 	EXPECT(kangirlo_read_record(bytes, sizeof bytes).x == -0x1FFFFFFF);
-	EXPECT(!pack(&(struct kangirlo_record){.kind = KANGIRLO_HEAD, .count = 64}, bytes));
 }
 
 int main(void)
 {
 	packed_and_read();
-	open_connection(0);
+	heads_packed_and_read();
+	open_connection(0, FINGERS);
 	offset_too_early();
 	two_fingers_down();
 	moved_in_two_frames();
@@ -218,7 +252,10 @@ int main(void)
 	suspended_and_resumed();
 	all_leave();
 	puts("a second connection, with ready flag 2");
-	open_connection(NO_TIMES);
+	open_connection(NO_TIMES, FINGERS);
 	offset_at_once();
+	puts("a third connection, of a wall panel");
+	open_connection(0, WALL);
+	fingers_of_a_wall();
 	return expect_end();
 }

@@ -4,12 +4,13 @@
 #include "apart.h"
 #include "batch.h"
 #include "expect.h"
+#include "head.h"
 #include "sender.h"
 
 #include <string.h>
 
-enum { VERSION = 0x00010001, NO_TIMES = 2, FRAMES_MOST = 64, CONTACTS_MOST = 63, UNTOUCHED = 0xA5 };
-enum { TIME_MOST = 0x3FFFFFFF, ALL_CONTACTS = 256 };
+enum { VERSION = 0x00010001, NO_TIMES = 2, FRAMES_MOST = 64, UNTOUCHED = 0xA5 };
+enum { TIME_MOST = 0x3FFFFFFF, ALL_CONTACTS = 256, OVER = KANGIRLO_CONTACTS_MOST + 1 };
 
 static const uint8_t server_ready[] = {1, 0, 10, 0, 0, 0, 1, 0, 1, 0};
 static const uint8_t suspend[] = {4, 0, 6, 0, 0, 0}, resume[] = {5, 0, 6, 0, 0, 0};
@@ -130,7 +131,7 @@ static struct batch frames(unsigned count, uint64_t first_offset, bool stray_at_
 	return batch;
 }
 
-/* Hovering contacts with every field, 24 bytes each in a message: three frames of 63 are over 4,096 bytes. */
+/* Hovering contacts with every field, 24 bytes each in a message: a frame of 256 is over 4,096 bytes. */
 static struct batch crowd(void)
 {
 	struct batch batch = {0};
@@ -138,9 +139,8 @@ static struct batch crowd(void)
 	                                  .left = -0x3FFF, .top = 0x3FFF, .right = 0x3FFF, .bottom = -0x3FFF, .orientation = 359,
 	                                  .pressure = 65000};
 
-	for (unsigned i = 0; i < 3 * CONTACTS_MOST; i++) {
-		if (i % CONTACTS_MOST == 0)
-			batch_head(&batch, CONTACTS_MOST, 0);
+	batch_head(&batch, KANGIRLO_CONTACTS_MOST, 0);
+	for (unsigned i = 0; i < KANGIRLO_CONTACTS_MOST; i++) {
 		contact.id = (uint8_t)i;
 		batch_record(&batch, contact);
 	}
@@ -199,6 +199,89 @@ static void test_touch(void)
 	EXPECT(wrote(sender_touch_in(&sender, 17, 0, &batch), down, sizeof down));
 	EXPECT(sender.panel.begun == 1 && sender.panel.states[1] == 2 && sender.panel.xs[1] == 100 && sender.panel.ys[1] == 50);
 	EXPECT(refused(sender_touch(&sender, 0, &batch), KANGIRLO_ILLEGAL));
+}
+
+/* A frame of so many contacts, in five bytes of a message each: contact i at i modulo 32, i / 32. */
+static struct batch wall(unsigned count, enum batch_flags flags)
+{
+	struct batch batch = {0};
+
+	batch_head(&batch, (uint16_t)count, 0);
+	for (unsigned i = 0; i < count; i++)
+		batch_contact(&batch, flags, (uint8_t)i, (int32_t)i % 32, (int32_t)i / 32);
+	return batch;
+}
+
+/* Writes it, and looks at how long the message is and what it says of the count, in one byte or two. */
+static int writes_wall(unsigned count, enum batch_flags flags)
+{
+	const struct batch batch = wall(count, flags);
+	const struct kangirlo_written written = sender_touch(&sender, 0, &batch);
+	const uint8_t one[] = {(uint8_t)count}, two[] = {(uint8_t)(0x80 | count >> 8), (uint8_t)count};
+	const size_t bytes = count > 127 ? sizeof two : sizeof one;
+
+	kept = sender;
+	return written.refusal == KANGIRLO_TAKEN && written.bytes == 9 + bytes + 5 * count
+	       && memcmp(sender.message + 8, count > 127 ? two : one, bytes) == 0;
+}
+
+/* Whether the first contacts are in this state where a wall has them, and the others out. */
+static int has_contacts(unsigned count, uint8_t state)
+{
+	const struct kangirlo_panel *panel = &sender.panel;
+
+	for (unsigned i = 0; i < ALL_CONTACTS; i++) {
+		const int in = i < count;
+
+		if (panel->states[i] != (in ? state : 0) || panel->xs[i] != (in ? (int)i % 32 : 0) || panel->ys[i] != (in ? (int)i / 32 : 0))
+			return 0;
+	}
+	return 1;
+}
+
+/* Counts at both sides of what the low bits of a head's count hold, and one byte of a message's, up to the greatest. */
+static void test_wall(void)
+{
+	static const unsigned counts[] = {63, 64, 127, 128, 255, KANGIRLO_CONTACTS_MOST};
+
+	for (size_t i = 0; i < sizeof counts / sizeof *counts; i++) {
+		begin_ready(0);
+		EXPECT(writes_wall(counts[i], DOWN) && has_contacts(counts[i], 2));
+		EXPECT(writes_wall(counts[i], MOVE) && has_contacts(counts[i], 2));
+		EXPECT(writes_wall(counts[i], LIFT_TO_HOVER) && has_contacts(counts[i], 1));
+		EXPECT(writes_wall(counts[i], LEAVE) && has_contacts(0, 0));
+	}
+}
+
+/* What is wrong with large frames: more contacts than the head says or than a frame may have, an id in its first and last contact, more
+ * contacts than are declared; and 7 is of frames, however many contacts they have. */
+static void test_wall_refused(void)
+{
+	struct batch over = wall(KANGIRLO_CONTACTS_MOST, HOVER), twice = over, many = over;
+
+	batch_contact(&over, HOVER, 0, 0, 0);
+	begin();
+	EXPECT(refused(sender_touch(&sender, 0, &over), KANGIRLO_BAD_RECORD));
+	head_put(over.bytes, OVER, 0);
+	EXPECT(refused(sender_touch(&sender, 0, &over), KANGIRLO_BAD_RECORD));
+	head_put(over.bytes, 511, 0);
+	EXPECT(refused(sender_touch(&sender, 0, &over), KANGIRLO_BAD_RECORD));
+	begin_ready(0);
+	twice.length -= KANGIRLO_RECORD_BYTES;
+	batch_contact(&twice, HOVER, 0, 0, 0);
+	EXPECT(refused(sender_touch(&sender, 0, &twice), KANGIRLO_ILLEGAL));
+	for (unsigned i = 0; i < FRAMES_MOST; i++)
+		batch_head(&many, 0, 0);
+	EXPECT(refused(sender_touch(&sender, 0, &many), KANGIRLO_BAD_COUNT));
+	many.length -= KANGIRLO_RECORD_BYTES;
+	EXPECT(sender_touch(&sender, 0, &many).refusal == KANGIRLO_TAKEN && has_contacts(KANGIRLO_CONTACTS_MOST, 1));
+	begin();
+	EXPECT(takes(server_ready, sizeof server_ready));
+	EXPECT(sender_ready(&sender, 0, VERSION, ALL_CONTACTS - 1).refusal == KANGIRLO_TAKEN);
+	kept = sender;
+	many = wall(KANGIRLO_CONTACTS_MOST, DOWN);
+	EXPECT(refused(sender_touch(&sender, 0, &many), KANGIRLO_ILLEGAL));
+	EXPECT(writes_wall(KANGIRLO_CONTACTS_MOST - 1, DOWN));
 }
 
 /* 11 is of the first frame, and of none with ready flag 2. */
@@ -358,6 +441,8 @@ int main(void)
 	test_touch_refusals();
 	test_touch_records();
 	test_touch();
+	test_wall();
+	test_wall_refused();
 	test_first_offset();
 	test_dismiss();
 	test_marks();

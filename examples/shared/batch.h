@@ -4,7 +4,8 @@
 
 #include "kangirlo.h"
 
-enum { BATCH_MOST = 256 * KANGIRLO_RECORD_BYTES };
+/* Two of the greatest frames. */
+enum { BATCH_MOST = 2 * (1 + KANGIRLO_CONTACTS_MOST) * KANGIRLO_RECORD_BYTES };
 
 /* What a contact does: the eight contactFlags. */
 enum batch_flags {

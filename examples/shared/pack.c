@@ -1,5 +1,5 @@
 /* Bits, most significant first, unused ones 0:
- * a head has kind 0 (2 bits), count (6), offset (61), 99 zeros;
+ * a head has kind 0 (2 bits), the low bits of the count (6), offset (61), the high bits of the count (3), 96 zeros;
  * any other has kind (2), flags (6), present (3), id (8), x and y (30 each), left, top, right, bottom (15 each), orientation (9),
  * pressure (16), 4 zeros. Signed values are two's complement. */
 #include "pack.h"
@@ -37,8 +37,10 @@ static void put_signed(struct bits *bits, unsigned width, int64_t value)
 
 static void put_head(struct bits *bits, const struct kangirlo_record *record)
 {
-	put_unsigned(bits, 6, record->count);
+	bits->fit = bits->fit && record->count <= KANGIRLO_CONTACTS_MOST;
+	put_low(bits, 6, record->count);
 	put_unsigned(bits, 61, record->offset.value);
+	put_low(bits, 3, record->count >> 6);
 }
 
 static void put_contact(struct bits *bits, const struct kangirlo_record *record)

@@ -6,7 +6,8 @@
 
 #include <stdbool.h>
 
-/* False, with no byte touched, where a value does not fit in its bits. Whether the record is well formed is for the library to say. */
+/* False, with no byte touched, where a value does not fit in its bits, or a head has more contacts than a frame may have. Whether the record
+ * is well formed is for the library to say. */
 bool pack(const struct kangirlo_record *record, uint8_t bytes[KANGIRLO_RECORD_BYTES]);
 
 #endif

@@ -1,5 +1,6 @@
 // Runs the integers and the house records over vectors from standard input, one line for each:
-// r an integer read in its only form, a in any form, w an integer written, h a head written, c a contact written, d a record read.
+// r an integer read in its only form, a in any form, w an integer written, h a head written, H a head of a count in two bytes written,
+// c a contact written, d a record read.
 mod parse;
 mod print;
 mod records;
@@ -20,6 +21,7 @@ fn run_vector(vector: &[u8]) {
         b'a' => wholes::run_read(body, false),
         b'w' => wholes::run_write(body),
         b'h' => records::run_head(body),
+        b'H' => records::run_wide_head(body),
         b'c' => records::run_contact(body),
         b'd' => records::run_record(body),
         _ => print::word(b"unknown"),

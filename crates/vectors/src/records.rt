@@ -9,27 +9,45 @@ use house::Record;
 use house::Sides;
 use paper::Microseconds;
 
-// The count, eight bytes of offset, and how much output is lent.
-pub(crate) fn run_head(body: &[u8]) {
-    if body.len() != 10 {
+// A head of this count: eight bytes of offset, and how much output is lent.
+fn put_head(count: u16, rest: &[u8]) {
+    if rest.len() != 9 {
         print::word(b"unknown");
         return;
     }
-    let room = parse::count(body[9]);
+    let room = parse::count(rest[8]);
     if 32 < room {
         print::word(b"unknown");
         return;
     }
-    let high = parse::word(body[1], body[2], body[3], body[4]);
-    let low = parse::word(body[5], body[6], body[7], body[8]);
+    let high = parse::word(rest[0], rest[1], rest[2], rest[3]);
+    let low = parse::word(rest[4], rest[5], rest[6], rest[7]);
     let head = Head {
-        count: parse::wide(body[0]),
+        count: count,
         offset: Microseconds(parse::joined(high, low)),
     };
     let mut space = [0xEEu8; 32];
     let out = &mut space[..room];
     let written = house::write_head(out, head);
     wholes::show(written, out);
+}
+
+// The count in one byte, then the rest of a head.
+pub(crate) fn run_head(body: &[u8]) {
+    if body.len() < 1 {
+        print::word(b"unknown");
+        return;
+    }
+    put_head(parse::wide(body[0]), &body[1..]);
+}
+
+// The count in two bytes.
+pub(crate) fn run_wide_head(body: &[u8]) {
+    if body.len() < 2 {
+        print::word(b"unknown");
+        return;
+    }
+    put_head(parse::half(body[0], body[1]), &body[2..]);
 }
 
 // Two coordinates, ten bytes.

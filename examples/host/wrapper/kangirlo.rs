@@ -13,6 +13,8 @@ pub use panel::Panel;
 use std::mem::{offset_of, size_of};
 
 pub const MESSAGE_MOST: usize = 4096;
+/// How many contacts a frame may have.
+pub const CONTACTS_MOST: usize = 256;
 pub const RECORD_BYTES: usize = 21;
 /// The most that one message makes a receiver write.
 pub const OUTPUT_MOST: usize = 49152;

@@ -1,10 +1,10 @@
--- `vectors::records::run_head` is safe: what is lent of the space is no more than there is.
+-- `vectors::records::put_head` is safe: what is lent of the space is no more than there is.
 -- Assumes nothing.
 use borrow.Author.Needs.{needs}
 use mathlib.Core.Path.{sym}
 use lib.Seq.{length-take-le}
-use Rattle.vectors.proofs.records.run_head.Statement.{statement}
-use Rattle.vectors.proofs.records.run_head.Tie as tie
+use Rattle.vectors.proofs.records.put_head.Statement.{statement}
+use Rattle.vectors.proofs.records.put_head.Tie as tie
 
 slice-aggregate-word : tie.Need-slice-aggregate-word
 slice-aggregate-word c = search needs
@@ -60,12 +60,6 @@ shared-slice-read-word-8 c = search needs
 word-requires-4 : tie.Need-word-requires-4
 word-requires-4 c κs = search needs
 
-shared-slice-read-wide : tie.Need-shared-slice-read-wide
-shared-slice-read-wide c = search needs
-
-wide-requires : tie.Need-wide-requires
-wide-requires c κs = search needs
-
 joined-requires : tie.Need-joined-requires
 joined-requires c κs = search needs
 
@@ -73,7 +67,9 @@ array-borrow-prefix-space : tie.Need-array-borrow-prefix-space
 array-borrow-prefix-space c = search needs
 
 slice-aggregate-out : tie.Need-slice-aggregate-out
-slice-aggregate-out c = sym (length-take-le (c .before .before .before .before .before .before .before .before .before .before .before .before .before .before .before .count .result) _ (c .before .before .before .before .before .before .before .before .before .before .before .before .before .before .if2 .left))
+slice-aggregate-out c =
+    let e = c .before .before .before .before .before .before .before .before .before .before .before .before in
+    sym (length-take-le (e .before .count .result) _ (e .if2 .left))
 
 write-head-requires : tie.Need-write-head-requires
 write-head-requires c κs = search needs
@@ -84,8 +80,8 @@ show-requires c κs = search needs
 returns-3 : tie.Need-returns-3
 returns-3 c = search needs
 
-pub run-head-spec : {M : Type 1} → statement M
-run-head-spec =
+pub put-head-spec : {M : Type 1} → statement M
+put-head-spec =
     tie.close
     (tie.spec
     slice-aggregate-word
@@ -106,8 +102,6 @@ run-head-spec =
     shared-slice-read-word-7
     shared-slice-read-word-8
     word-requires-4
-    shared-slice-read-wide
-    wide-requires
     joined-requires
     array-borrow-prefix-space
     slice-aggregate-out

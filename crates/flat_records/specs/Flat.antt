@@ -37,7 +37,7 @@ bare refusal count offset = record {
 abbrev pub refused : ℕ → FlatRecord
 refused e = bare e 0 (record { 0 = 0 })
 
--- "Head: kind 0 (2 bits), contact count (6), offset (61)"
+-- "Head: kind 0 .., contact count .., offset"
 abbrev pub flatHead : Head → FlatRecord
 flatHead h = bare none (h .count) (h .offset)
 

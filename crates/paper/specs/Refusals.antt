@@ -29,7 +29,7 @@ truncated = 5
 abbrev pub notShortest : ℕ
 notShortest = 6
 
--- frames over 64, contacts over 63
+-- frames over 64, contacts over 256 (#107)
 abbrev pub badCount : ℕ
 badCount = 7
 

@@ -12,7 +12,7 @@ pub const BAD_LENGTH: u8 = 4;
 pub const TRUNCATED: u8 = 5;
 // An integer not in its only form.
 pub const NOT_SHORTEST: u8 = 6;
-// Frames over 64, contacts over 63.
+// Frames over 64, contacts over 256.
 pub const BAD_COUNT: u8 = 7;
 // Version, ready flags or fieldsPresent not listed.
 pub const BAD_FIELD: u8 = 8;

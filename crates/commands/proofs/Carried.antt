@@ -8,8 +8,8 @@ use native.Mathlib.Omega.{arith}
 use lib.Dec.{leb}
 use lib.ListN.{length, take, drop}
 use borrow.Author.Tests.{leb-true}
-use Rattle.sending.specs.Panel.{Sending, Sends}
-use Rattle.sending.specs.declared.Panel.{Panel}
+use Rattle.panels.specs.Panel.{Sending, Sends}
+use Rattle.panels.specs.declared.Panel.{Panel}
 use Rattle.sending.specs.declared.Outgoing.{Outgoing}
 use Rattle.commands.specs.Commands.{unknown, commandOf, lentOf, Lends}
 use Rattle.commands.specs.declared.Obeyed.{Obeyed}

@@ -5,8 +5,8 @@ use mathlib.Core.Path.{_≡_, sym, ap, _∙_}
 use mathlib.Core.List.{List, _++_}
 use lib.ListN.{drop}
 use Rattle.slices.specs.declared.Written.{Written}
-use Rattle.sending.specs.Panel.{Sending, Sends}
-use Rattle.sending.specs.declared.Panel.{Panel}
+use Rattle.panels.specs.Panel.{Sending, Sends}
+use Rattle.panels.specs.declared.Panel.{Panel}
 use Rattle.sending.proofs.Unique.{Same, calls-unique}
 use Rattle.commands.specs.Commands.{Command, arrives, declares, touches, dismisses, unknown, Lends, Hears, Obeys}
 use Rattle.commands.specs.declared.Obeyed.{Obeyed}

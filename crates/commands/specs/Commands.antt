@@ -10,8 +10,8 @@ use Rattle.paper.specs.Refusals.{none}
 use Rattle.paper.specs.declared.Milliseconds.{Milliseconds}
 use Rattle.digits.specs.Digits.{joined}
 use Rattle.messages.specs.declared.Ready.{Ready}
-use Rattle.sending.specs.Panel.{Takes, Sends, Sending, readySending, touchSending, dismissSending}
-use Rattle.sending.specs.declared.Panel.{Panel}
+use Rattle.panels.specs.Panel.{Takes, Sends, Sending, readySending, touchSending, dismissSending}
+use Rattle.panels.specs.declared.Panel.{Panel}
 use Rattle.commands.specs.declared.Obeyed.{Obeyed}
 
 -- ---- what an entry asks

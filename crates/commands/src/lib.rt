@@ -7,7 +7,7 @@ use carrying::declare;
 use carrying::dismiss;
 use carrying::pass_over;
 use carrying::touch;
-use sending::Panel;
+use panels::Panel;
 use slices::Written;
 ghost use Rattle.commands.specs.Commands.{commandOf, Obeys};
 

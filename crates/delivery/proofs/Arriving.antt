@@ -9,8 +9,8 @@ use Rattle.paper.specs.Refusals.{trailing}
 use Rattle.formats.specs.Format.{Got, got, bad, andThen, whole}
 use Rattle.messages.specs.Header.{headed, serverReady, suspend}
 use Rattle.messages.specs.Bodies.{version, nothing}
-use Rattle.sending.specs.Panel.{awaited, greetedBy, suspendedBy, bodyArrival, arrival, panelOf, Takes}
-use Rattle.sending.specs.declared.Panel.{Panel}
+use Rattle.panels.specs.Panel.{awaited, greetedBy, suspendedBy, bodyArrival, arrival, panelOf, Takes}
+use Rattle.panels.specs.declared.Panel.{Panel}
 use Rattle.delivery.specs.Delivery.{mirror}
 
 -- a panel with the same mirror as p, or p itself where the message is refused

@@ -16,8 +16,8 @@ use Rattle.messages.specs.declared.Ready.{Ready}
 use Rattle.messages.proofs.Laws.{one-of-first, ready-law}
 use Rattle.messages.proofs.RoundTrip.{FitReady, round-trips}
 use Rattle.channel.specs.Marks.{off}
-use Rattle.sending.specs.Panel.{mayDeclare, readySending}
-use Rattle.sending.specs.declared.Panel.{Panel}
+use Rattle.panels.specs.Panel.{mayDeclare, readySending}
+use Rattle.panels.specs.declared.Panel.{Panel}
 use Rattle.receiver.specs.Receive.{takes, settled, effect}
 use Rattle.receiver.proofs.Invariants.{settled-kept}
 use Rattle.delivery.specs.Delivery.{ready, mirror}

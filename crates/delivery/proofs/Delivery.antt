@@ -7,8 +7,8 @@ use mathlib.Core.List.{List, [], _∷_}
 use lib.ListN.{length, take}
 use Rattle.slices.specs.declared.Written.{Written}
 use Rattle.machine.specs.Machine.{Counts}
-use Rattle.sending.specs.Panel.{freshPanel, Sends}
-use Rattle.sending.specs.declared.Panel.{Panel}
+use Rattle.panels.specs.Panel.{freshPanel, Sends}
+use Rattle.panels.specs.declared.Panel.{Panel}
 use Rattle.receiver.specs.Limits.{mostOutput}
 use Rattle.receiver.specs.Receive.{answerOf, Receives}
 use Rattle.receiver.specs.declared.Receiver.{Receiver}

@@ -17,8 +17,8 @@ use Rattle.machine.specs.Table.{stateAt}
 use Rattle.machine.specs.Machine.{dismissTable}
 use Rattle.machine.proofs.Held.{without-nobody}
 use Rattle.channel.specs.Marks.{off}
-use Rattle.sending.specs.Panel.{panelTable, dismissSending}
-use Rattle.sending.specs.declared.Panel.{Panel}
+use Rattle.panels.specs.Panel.{panelTable, dismissSending}
+use Rattle.panels.specs.declared.Panel.{Panel}
 use Rattle.receiver.specs.Receive.{marksOf, ofParts, takes, dismissedBy, effect}
 use Rattle.receiver.proofs.Invariants.{dismissed-kept}
 use Rattle.delivery.specs.Delivery.{dismissal, mirror}

@@ -5,8 +5,8 @@ use mathlib.Core.Path.{_≡_, refl, sym, ap, subst, _∙_}
 use mathlib.Core.List.{List, [], _∷_}
 use Rattle.slices.specs.Writing.{bytes}
 use Rattle.slices.specs.declared.Written.{Written}
-use Rattle.sending.specs.Panel.{freshPanel, Takes, Sends}
-use Rattle.sending.specs.declared.Panel.{Panel}
+use Rattle.panels.specs.Panel.{freshPanel, Takes, Sends}
+use Rattle.panels.specs.declared.Panel.{Panel}
 use Rattle.receiver.specs.Receive.{fresh}
 use Rattle.receiver.proofs.Invariants as receiver
 use Rattle.delivery.specs.Delivery.{Asked, ready, touch, dismissal, sendingOf, Typed, PanelCall, arrived, sent, PanelCalls, mirror}

@@ -8,10 +8,10 @@ use Rattle.paper.specs.Refusals.{none}
 use Rattle.slices.specs.Writing.{Draft, bytes, refuse}
 use Rattle.house.proofs.WellFormed.{never}
 use Rattle.messages.specs.Header.{oneOf}
-use Rattle.sending.specs.Panel.{readySending, touchSending, dismissSending}
+use Rattle.panels.specs.Panel.{readySending, touchSending, dismissSending}
+use Rattle.panels.specs.declared.Panel.{Panel}
+use Rattle.panels.proofs.Drafts.{Tame, Told}
 use Rattle.sending.specs.Refusing.{readyNumbers, touchNumbers, dismissNumbers}
-use Rattle.sending.specs.declared.Panel.{Panel}
-use Rattle.sending.proofs.Drafts.{Tame, Told}
 use Rattle.sending.proofs.Refusing.{Listed, ready-tame, touch-tame, dismiss-tame}
 use Rattle.delivery.specs.Delivery.{Asked, ready, touch, dismissal, sendingOf}
 

@@ -11,9 +11,9 @@ use lib.Seq.{take-at}
 use Rattle.paper.specs.Refusals.{none}
 use Rattle.slices.specs.Writing.{Draft, bytes, refuse, given, answered, left}
 use Rattle.slices.specs.declared.Written.{Written}
-use Rattle.sending.specs.Panel.{Sending, Sends, panelAfter}
-use Rattle.sending.specs.declared.Panel.{Panel}
-use Rattle.sending.proofs.Drafts.{Tame, Told, given-tame}
+use Rattle.panels.specs.Panel.{Sending, Sends, panelAfter}
+use Rattle.panels.specs.declared.Panel.{Panel}
+use Rattle.panels.proofs.Drafts.{Tame, Told, given-tame}
 use Rattle.delivery.specs.Delivery.{wrote}
 use Rattle.slices.proofs.Drafts.{given-bytes}
 

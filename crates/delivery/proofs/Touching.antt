@@ -34,8 +34,8 @@ use Rattle.channel.specs.Marks.{off, mark, untimedBy, judgedBy}
 use Rattle.machine.specs.Machine.{allConform}
 use Rattle.machine.proofs.Conforming.{allInjected, all-running, all-held, all-bytes, all-counts, timed-machine, timed-conform}
 use Rattle.contacts.specs.Touch.{touchView}
-use Rattle.sending.specs.Panel.{panelRules, panelMachine, offsetStands, sendingDraft, framesSending, touchSending, touchedBy}
-use Rattle.sending.specs.declared.Panel.{Panel}
+use Rattle.panels.specs.Panel.{panelRules, panelMachine, offsetStands, sendingDraft, framesSending, touchSending, touchedBy}
+use Rattle.panels.specs.declared.Panel.{Panel}
 use Rattle.receiver.specs.Receive.{takes, touched, effect}
 use Rattle.receiver.proofs.Invariants.{touched-kept}
 use Rattle.delivery.specs.Delivery.{touch, mirror, framesOf}

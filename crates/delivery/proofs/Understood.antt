@@ -11,7 +11,7 @@ use Rattle.formats.proofs.Laws.{Law}
 use Rattle.messages.specs.Header.{headerBytes, oneOf, headed, readMessage}
 use Rattle.messages.proofs.Laws.{headed-good, message-got}
 use Rattle.machine.proofs.Conforming.{allInjected}
-use Rattle.sending.specs.declared.Panel.{Panel}
+use Rattle.panels.specs.declared.Panel.{Panel}
 use Rattle.receiver.specs.Receive.{Effect, takes}
 use Rattle.receiver.specs.Receive as receiving
 use Rattle.receiver.specs.declared.Receiver.{Receiver}

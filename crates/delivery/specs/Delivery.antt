@@ -19,8 +19,8 @@ use Rattle.recordings.specs.Records.{framesIn}
 use Rattle.channel.specs.Marks.{untimedBy}
 use Rattle.machine.specs.Machine.{arraysIn, dismissBytes}
 use Rattle.contacts.specs.Touch.{touchView}
-use Rattle.sending.specs.Panel.{panelTable, panelMachine, freshPanel, Takes, Sending, readySending, touchSending, dismissSending, Sends}
-use Rattle.sending.specs.declared.Panel.{Panel}
+use Rattle.panels.specs.Panel.{panelTable, panelMachine, freshPanel, Takes, Sending, readySending, touchSending, dismissSending, Sends}
+use Rattle.panels.specs.declared.Panel.{Panel}
 use Rattle.receiver.specs.Limits.{mostOutput}
 use Rattle.receiver.specs.Receive.{ofParts, fresh}
 use Rattle.receiver.specs.declared.Receiver.{Receiver}

@@ -11,11 +11,11 @@ use denote.Struct.Laws as LL
 use Rattle.slices.specs.declared.Written.{Written}
 use Rattle.slices.proofs.Written as N
 use Rattle.slices.proofs.Written.Laws as N′
-use Rattle.sending.specs.declared.Panel.{Panel}
+use Rattle.panels.specs.declared.Panel.{Panel}
+use Rattle.panels.proofs.Panel as P
+use Rattle.panels.proofs.Panel.Laws as P′
 use Rattle.sending.specs.declared.Arrived.{Arrived}
 use Rattle.sending.specs.declared.Outgoing.{Outgoing}
-use Rattle.sending.proofs.Panel as P
-use Rattle.sending.proofs.Panel.Laws as P′
 use Rattle.sending.proofs.Arrived as B
 use Rattle.sending.proofs.Arrived.Laws as B′
 use Rattle.sending.proofs.Outgoing as O

@@ -4,10 +4,10 @@ use Prim.Native.Nat.{ℕ}
 use mathlib.Core.Path.{_≡_}
 use mathlib.Core.List.{List}
 use Rattle.paper.specs.declared.Milliseconds.{Milliseconds}
-use Rattle.sending.specs.Panel.{freshPanel, Takes, TakesParts, readySending, touchSending, dismissSending}
-use Rattle.sending.specs.declared.Panel.{Panel}
-use Rattle.sending.specs.declared.PanelMarks.{PanelMarks}
-use Rattle.sending.specs.declared.Heard.{Heard}
+use Rattle.panels.specs.Panel.{freshPanel, Takes, TakesParts, readySending, touchSending, dismissSending}
+use Rattle.panels.specs.declared.Panel.{Panel}
+use Rattle.panels.specs.declared.PanelMarks.{PanelMarks}
+use Rattle.panels.specs.declared.Heard.{Heard}
 use Rattle.sending.proofs.Unique.{One, OneInParts, OneReady}
 use Rattle.sending.proofs.Unique as sending
 

@@ -1,23 +1,23 @@
 // The C face of the panel's sending side: each call of include/kangirlo.h that is lent a panel, a thin function over the call by
 // value, with that call's contract. The panel is updated where it stands; beside each call stands one that is lent the panel in parts, the
 // marks by value and the contacts where they stand.
+use panels::Heard;
+use panels::Panel;
+use panels::PanelMarks;
+use panels::Said;
 use paper::Milliseconds;
-use sending::Heard;
-use sending::Panel;
-use sending::PanelMarks;
-use sending::Said;
 use slices::Written;
 ghost use mathlib.Core.Path.{_≡_};
 ghost use Rattle.machine.specs.Table.{Table};
 ghost use Rattle.contacts.specs.Ruling.{tableFrom};
-ghost use Rattle.sending.specs.Panel.{freshPanel, panelOfParts, readySending, touchSending, dismissSending, Takes, TakesParts, Sends, SendsParts};
+ghost use Rattle.panels.specs.Panel.{freshPanel, panelOfParts, readySending, touchSending, dismissSending, Takes, TakesParts, Sends, SendsParts};
 
 // A panel that has taken and written nothing.
 #[no_mangle]
 pub extern "C" fn kangirlo_panel_fresh() -> Panel
     ensures { λ r. ⌜ r ≡ freshPanel ⌝ }
 {
-    sending::fresh()
+    panels::fresh()
 }
 
 // A message that arrived: taken, or refused with nothing changed. Answers the refusal, 0 for none.
@@ -80,7 +80,7 @@ pub extern "C" fn kangirlo_panel_write_dismiss(
 pub extern "C" fn kangirlo_panel_take_parts(marks: PanelMarks, message: &[u8]) -> Heard
     ensures { λ r. ⌜ TakesParts marks (now (message .entry)) r ⌝ }
 {
-    sending::take_parts(marks, message)
+    panels::take_parts(marks, message)
 }
 
 // Client ready, of a panel with these marks; its contacts are not needed.
@@ -94,7 +94,7 @@ pub extern "C" fn kangirlo_panel_write_ready_parts(
 ) -> Said
     ensures { λ r. ⌜ ((t : Table) → SendsParts (panelOfParts marks t) (readySending (panelOfParts marks t) (record { flags = flags; version = version; most = most })) r t (now (output .entry)) (now (output .exit))) ⌝ }
 {
-    sending::write_ready_parts(marks, output, flags, version, most)
+    panels::write_ready_parts(marks, output, flags, version, most)
 }
 
 // A touch message of records, of a panel that is lent in parts.
@@ -110,7 +110,7 @@ pub extern "C" fn kangirlo_panel_write_touch_parts(
 ) -> Said
     ensures { λ r. ⌜ SendsParts (panelOfParts marks (tableFrom (now (states .entry)) (now (xs .entry)) (now (ys .entry)))) (touchSending (panelOfParts marks (tableFrom (now (states .entry)) (now (xs .entry)) (now (ys .entry)))) time (now (records .entry))) r (tableFrom (now (states .exit)) (now (xs .exit)) (now (ys .exit))) (now (output .entry)) (now (output .exit)) ⌝ }
 {
-    sending::write_touch_parts(marks, output, time, records, states, xs, ys)
+    panel_touch::write_touch_parts(marks, output, time, records, states, xs, ys)
 }
 
 // Dismiss, of a panel that is lent in parts.
@@ -125,5 +125,5 @@ pub extern "C" fn kangirlo_panel_write_dismiss_parts(
 ) -> Said
     ensures { λ r. ⌜ SendsParts (panelOfParts marks (tableFrom (now (states .entry)) (now (xs .entry)) (now (ys .entry)))) (dismissSending (panelOfParts marks (tableFrom (now (states .entry)) (now (xs .entry)) (now (ys .entry)))) id) r (tableFrom (now (states .exit)) (now (xs .exit)) (now (ys .exit))) (now (output .entry)) (now (output .exit)) ⌝ }
 {
-    sending::write_dismiss_parts(marks, output, id, states, xs, ys)
+    panels::write_dismiss_parts(marks, output, id, states, xs, ys)
 }

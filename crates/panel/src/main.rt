@@ -14,7 +14,7 @@ fn add_answer(page: &mut [u8], place: usize, obeyed: Obeyed, output: &[u8]) -> u
 
 // A proved loop has to end, and nothing says that an input does: it stops at a number that no run reaches.
 fn run(space: &mut [u8], page: &mut [u8], output: &mut [u8]) {
-    let mut panel = sending::fresh();
+    let mut panel = panels::fresh();
     let mut stand = turns::begin();
     while stand.number < 0xFFFF_FFFF_FFFF_FFFF {
         let turn = turns::next_turn(space, page, stand);

@@ -10,8 +10,8 @@ use Rattle.messages.specs.Header.{headed, eventOf, suspend, resume}
 use Rattle.messages.specs.Bodies.{nothing}
 use Rattle.messages.proofs.Laws.{headed-got}
 use Rattle.channel.specs.Marks.{mark}
-use Rattle.sending.specs.Panel.{awaited, suspendedBy, bodyArrival, arrival, panelOf, Takes}
-use Rattle.sending.specs.declared.Panel.{Panel}
+use Rattle.panels.specs.Panel.{awaited, suspendedBy, bodyArrival, arrival, panelOf, Takes}
+use Rattle.panels.specs.declared.Panel.{Panel}
 
 -- the event that sets the suspended mark, or clears it
 abbrev setting : Bool → ℕ

@@ -25,10 +25,10 @@ use Rattle.machine.specs.Machine.{allConform}
 use Rattle.contacts.specs.Touch.{touchView}
 use Rattle.writing.specs.TouchDraft.{checkedFrames}
 use Rattle.writing.proofs.Checked.{checked-tame}
-use Rattle.sending.specs.Panel.{panelTable, panelMachine, panelRules, awaited, bodyArrival, arrival, panelOf, Takes, Sending, mayDeclare, readySending, dismissSending, offsetStands, sendingDraft, framesSending, touchSending, panelAfter}
+use Rattle.panels.specs.Panel.{panelTable, panelMachine, panelRules, awaited, bodyArrival, arrival, panelOf, Takes, Sending, mayDeclare, readySending, dismissSending, offsetStands, sendingDraft, framesSending, touchSending, panelAfter}
+use Rattle.panels.specs.declared.Panel.{Panel}
+use Rattle.panels.proofs.Drafts.{Tame, by-test, given-tame, client-ready-tame, frames-tame}
 use Rattle.sending.specs.Refusing.{arrivalNumbers, readyNumbers, touchNumbers, dismissNumbers, Untaken, Unsent, Refuses, EveryPanelRefusal}
-use Rattle.sending.specs.declared.Panel.{Panel}
-use Rattle.sending.proofs.Drafts.{Tame, by-test, given-tame, client-ready-tame, frames-tame}
 
 abbrev pub Listed : List ℕ → ℕ → Type 0
 Listed numbers e = oneOf numbers e ≡ true

@@ -9,11 +9,11 @@ use Rattle.slices.specs.declared.Written.{Written}
 use Rattle.slices.proofs.Laws.{writes-unique}
 use Rattle.messages.specs.declared.Ready.{Ready}
 use Rattle.machine.specs.Table.{Table, resting}
-use Rattle.sending.specs.Panel.{panelTable, panelMarks, panelOfParts, freshPanel, Takes, TakesParts, Sending, readySending, touchSending, dismissSending, Sends, SendsParts}
-use Rattle.sending.specs.declared.Panel.{Panel}
-use Rattle.sending.specs.declared.PanelMarks.{PanelMarks}
-use Rattle.sending.specs.declared.Heard.{Heard}
-use Rattle.sending.specs.declared.Said.{Said}
+use Rattle.panels.specs.Panel.{panelTable, panelMarks, panelOfParts, freshPanel, Takes, TakesParts, Sending, readySending, touchSending, dismissSending, Sends, SendsParts}
+use Rattle.panels.specs.declared.Panel.{Panel}
+use Rattle.panels.specs.declared.PanelMarks.{PanelMarks}
+use Rattle.panels.specs.declared.Heard.{Heard}
+use Rattle.panels.specs.declared.Said.{Said}
 
 pub record Same (p q : Panel) (v w : Written) (s t : List ℕ) : Type 0 where
   pub panel : p ≡ q

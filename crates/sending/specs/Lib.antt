@@ -1,4 +1,2 @@
--- The panel's sending side, the contracts of its inner functions, and what its refusals are to leave.
-pub mod Panel
-pub mod Judging
+-- What a panel's refusals are to leave.
 pub mod Refusing

@@ -9,8 +9,8 @@ use Rattle.paper.specs.declared.Milliseconds.{Milliseconds}
 use Rattle.slices.specs.declared.Written.{Written}
 use Rattle.messages.specs.Header.{oneOf}
 use Rattle.messages.specs.declared.Ready.{Ready}
-use Rattle.sending.specs.Panel.{Takes, Sending, readySending, touchSending, dismissSending, Sends}
-use Rattle.sending.specs.declared.Panel.{Panel}
+use Rattle.panels.specs.Panel.{Takes, Sending, readySending, touchSending, dismissSending, Sends}
+use Rattle.panels.specs.declared.Panel.{Panel}
 
 -- ---- a call gives no number but these
 

@@ -16,7 +16,7 @@ fn add_entry(page: &mut [u8], place: usize, output: &[u8], n: usize) -> usize {
 
 // A proved loop has to end, and nothing says that an input does: it stops after more entries than any run has.
 fn run(space: &mut [u8], page: &mut [u8], output: &mut [u8]) {
-    let mut panel = sending::fresh();
+    let mut panel = panels::fresh();
     let mut window = feed::opened();
     let mut at: usize = 0;
     let mut left: u64 = 0xFFFF_FFFF_FFFF_FFFF;

@@ -41,13 +41,13 @@ use denote.Triple.Clauses.{Lasts, ensured, lasts}
 use denote.Triple.Table.{entered, cited}
 use denote.Triple.Walked.{says, Stays, stay-ref, stay-none-slice, walkOf, AllGo, goes-none-slice, goes-ref, Walks, ends-at, walked, walk-meets}
 use denote.Exit.{yes}
-use Rattle.sending.specs.Panel.{Takes}
+use Rattle.panels.specs.Panel.{Takes}
+use Rattle.panels.specs.declared.Panel.{Panel}
+use Rattle.panels.proofs.Panel as P
+use Rattle.panels.proofs.Panel.Laws as P′
 use Rattle.sending.specs.declared.Arrived.{Arrived}
 use Rattle.sending.proofs.Arrived as B
 use Rattle.sending.proofs.Arrived.Laws as B′
-use Rattle.sending.specs.declared.Panel.{Panel}
-use Rattle.sending.proofs.Panel as P
-use Rattle.sending.proofs.Panel.Laws as P′
 use Rattle.sending.proofs.take as g
 use Rattle.sending.proofs.take.Symbol as g-def
 use Rattle.sending.proofs.take.Symbol.{name as #g}

@@ -40,16 +40,16 @@ use denote.Triple.Clauses.{Lasts, ensured, lasts}
 use denote.Triple.Table.{entered, cited}
 use denote.Triple.Walked.{says, Stays, stay-ref, stay-none, stay-none-slice, gave-slice, walkOf, AllGo, goes-none, goes-none-slice, goes-gave-slice, goes-ref, Walks, ends-at, walked, walk-meets}
 use denote.Exit.{yes}
-use Rattle.sending.specs.Panel.{touchSending, Sends}
+use Rattle.panels.specs.Panel.{touchSending, Sends}
 use Rattle.paper.specs.declared.Milliseconds.{Milliseconds}
 use Rattle.paper.proofs.Milliseconds as T
 use Rattle.paper.proofs.Milliseconds.Laws as T′
+use Rattle.panels.specs.declared.Panel.{Panel}
+use Rattle.panels.proofs.Panel as P
+use Rattle.panels.proofs.Panel.Laws as P′
 use Rattle.sending.specs.declared.Outgoing.{Outgoing}
 use Rattle.sending.proofs.Outgoing as O
 use Rattle.sending.proofs.Outgoing.Laws as O′
-use Rattle.sending.specs.declared.Panel.{Panel}
-use Rattle.sending.proofs.Panel as P
-use Rattle.sending.proofs.Panel.Laws as P′
 use Rattle.slices.proofs.Written as N
 use Rattle.slices.proofs.Written.Laws as N′
 use Rattle.sending.proofs.write_touch as g

@@ -1,0 +1,39 @@
+-- The first frame's offset, as it is found in the first record.
+-- Assumes nothing.
+use Prim.Native.Nat.{ℕ}
+use mathlib.Core.Path.{_≡_, refl, sym, ap, _∙_}
+use mathlib.Core.Bool.{Bool, true, false, cond}
+use mathlib.Core.List.{List, [], _∷_}
+use native.Mathlib.Omega.{arith}
+use lib.Dec.{eqb}
+use Rattle.formats.specs.Format.{got}
+use Rattle.house.specs.Layout.{recordOf}
+use Rattle.house.specs.declared.Contact.{Contact}
+use Rattle.framing.specs.Frame.{Frame}
+use Rattle.channel.specs.Marks.{judgedBy}
+use Rattle.recordings.specs.Records.{framesIn, readAll}
+use Rattle.panels.specs.Panel.{offsetStands}
+use Rattle.panels.specs.declared.Panel.{Panel}
+use Rattle.panel_checks.specs.Checks.{offsetIn}
+use Rattle.panel_checks.proofs.Recorded.{parts, first}
+
+module _ (p : Panel) where
+  -- not judged, it stands
+  pub offset-free : judgedBy (p .settings .flags) (p .begun) ≡ false → (fs : List (Frame Contact)) → true ≡ offsetStands p fs
+  offset-free h [] = refl
+  offset-free h (f ∷ fs) = sym (ap (λ (b : Bool). cond b (eqb (f .offset .0) 0) true) h)
+
+  module _ (h : judgedBy (p .settings .flags) (p .begun) ≡ true) where
+    offset-first : (f : Frame Contact) (fs : List (Frame Contact)) → eqb (f .offset .0) 0 ≡ offsetStands p (f ∷ fs)
+    offset-first f fs = sym (ap (λ (b : Bool). cond b (eqb (f .offset .0) 0) true) h)
+
+    -- judged, it is 0; where there is no frame, there is no offset
+    pub offset-judged : (l : List ℕ) (fs : List (Frame Contact)) (rest : List ℕ) → framesIn l ≡ got fs rest → eqb (offsetIn (recordOf l)) 0 ≡ offsetStands p fs
+    unfolding framesIn readAll recordOf
+    offset-judged [] fs rest e =
+        let z : [] ≡ fs = cc in
+        ap (offsetStands p) z
+    offset-judged (x ∷ l) fs rest e =
+        let w = first (x ∷ l) fs rest (omega arith) e in
+        let o = parts (x ∷ l) (w .frame) (w .after) (w .read) .offset in
+        ap (λ (n : ℕ). eqb n 0) o ∙ offset-first (w .frame) (w .others) ∙ ap (offsetStands p) (sym (w .all))

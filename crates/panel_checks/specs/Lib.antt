@@ -1,0 +1,2 @@
+-- What is judged beside the frames' contacts.
+pub mod Checks

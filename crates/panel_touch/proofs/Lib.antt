@@ -1,0 +1,5 @@
+-- Laws of a touch message, frame by frame and check by check.
+mod Stepping
+mod Running
+mod Faulting
+mod Touching

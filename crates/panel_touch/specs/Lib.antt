@@ -1,0 +1,2 @@
+-- The contracts of the inner functions.
+pub mod Judging

@@ -1,0 +1,2 @@
+-- A panel, what it takes and what it sends.
+pub mod Panel

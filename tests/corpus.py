@@ -159,6 +159,13 @@ def touch_of(fields):
     return message(messages.TOUCH, body_of(fields))
 
 
+def with_each_count(encode_time, frames):
+    """A message in every form of its first frame's contactCount."""
+    fields = touch_fields(encode_time, frames)
+    at = [field.name for field in fields].index("contactCount")
+    return [touch_of(fields[:at] + [form] + fields[at + 1 :]) for form in all_forms(fields[at])]
+
+
 # Damage
 
 
@@ -279,6 +286,25 @@ def stretched(frames, length, encode_time=0):
         if more:
             result[at] = result[at]._replace(offset=U8.largest(have + more - 1) + 1)
             missing -= more
+    assert missing == 0
+    return result
+
+
+def widened(frames, length, encode_time=0):
+    """The frames with greater positions, from the last contact backwards, so that their message has just this length."""
+    missing = length - len(touch(encode_time, frames))
+    assert missing >= 0
+    result = []
+    for one in reversed(frames):
+        contacts = []
+        for each in reversed(one.contacts):
+            for name in house.POSITION:
+                have = integers.shortest_length(S4, abs(getattr(each, name)))
+                more = min(missing, S4.longest - have)
+                missing -= more
+                each = each._replace(**{name: S4.largest(have + more - 1) + 1}) if more else each
+            contacts.insert(0, each)
+        result.insert(0, one._replace(contacts=tuple(contacts)))
     assert missing == 0
     return result
 

@@ -220,7 +220,7 @@ def spoiled(rng, keeper, ids):
         contacts.append(placed(rng, keeper, rng.choice(fresh), 0x1A))
     if rng.random() < 0.2:
         rng.shuffle(contacts)
-    return frame(*contacts[:63], offset=offset(rng))
+    return frame(*contacts[: eras.most_contacts(keeper)], offset=offset(rng))
 
 
 def moved_lift(rng, keeper, contact_id):
@@ -242,13 +242,14 @@ def crowd(rng, keeper, ids):
 
 def opening(rng, keeper, ids, conforms=True):
     """A frame that opens by presses; one that does not conform has an id twice or too many."""
-    most = min(keeper.max_touch_contacts, len(ids), 62)
+    limit = eras.most_contacts(keeper)
+    most = min(keeper.max_touch_contacts, len(ids), limit - 1)
     count = rng.randint(1, max(1, min(most, 5)))
     chosen = rng.sample(ids, min(count, len(ids)))
     if not conforms and rng.random() < 0.5:
         chosen.append(rng.choice(chosen))
     elif not conforms:
-        chosen = list(ids)[: min(most + 1, 63)]
+        chosen = list(ids)[: min(most + 1, limit)]
     return frame(*(placed(rng, keeper, each, 0x19) for each in chosen), offset=offset(rng))
 
 

@@ -7,6 +7,7 @@ import itertools
 from collections import Counter
 
 import corpus
+import eras
 from corpus import contact, dismiss, frame, message, touch, touch_fields
 from histories import answered, conforming, offset, placed, rest, spoiled
 from reference import house, integers, receiver
@@ -46,7 +47,7 @@ def in_order(contact_id, *flags):
 
 OFFENDING = lists(0x1A, ODD)
 
-# A frame has at most 63 contacts.
+# As many as a frame held before request #107.
 GROUPS = [ALL_IDS[at : at + 63] for at in range(0, 256, 63)]
 
 
@@ -381,7 +382,7 @@ def at_the_edge(rng, keeper, ids):
     elif way < 0.28:
         chosen.append(rng.choice(chosen))
     elif way < 0.32:
-        chosen = (free or ids)[: min(62, keeper.max_touch_contacts + 1)]
+        chosen = (free or ids)[: min(eras.most_contacts(keeper) - 1, keeper.max_touch_contacts + 1)]
     elif way < 0.55:
         chosen, flags = some(rng, held or ids), LEAVING_FLAGS
     elif way < 0.75:

@@ -238,7 +238,7 @@ def rule_broken(record):
     """Which rule a record breaks that is not well formed."""
     kind = house.kind_of(record)
     if kind == house.HEAD_KIND:
-        return "a head's unused bits"
+        return "a head's unused bits" if house.unpack(record).count <= house.MOST_CONTACTS else "a head's count"
     one = house.unpack(record)
     for name, broken in (
         ("unused bits", house.split(house.CONTACT_LAYOUT, record)["unused"] != 0),

@@ -16,6 +16,7 @@ import hover_coverage
 import hover_play
 import make_bench
 import padded_play
+import wide_play
 from batches import AMPLE, HIGHEST_PLACES, HIGHEST_ROOM, MOST_PLACES, MOST_ROOM, Host, mixture, one, room_for
 from corpus import client_ready, contact, dismiss, frame, message, touch
 from make_bench import EXAMPLE, IDS, TOUCH, V100, V101
@@ -221,7 +222,7 @@ def by_refusal():
     yield from ((4, each) for each in (UPDATE[:-1], UPDATE + b"\0", dismiss(1) + b"\0"))
     yield from ((5, message(TOUCH, body)) for body in corpus.cut_bodies(fields))
     yield from ((0, message(TOUCH, body)) for body in corpus.other_form_bodies(fields))
-    yield from ((7, over(name, value)) for name, value in (("frameCount", 65), ("contactCount", 64)))
+    yield from ((number, over(name, value)) for number, name, value in ((7, "frameCount", 65), (5, "contactCount", 64)))
     yield 8, over("fieldsPresent", 8)
     yield from ((9, over("contactFlags", flags)) for flags in (0, 0x1B, 0x18))
     yield from ((10, over(name, value)) for name, value in (("orientation", 360), ("pressure", 65001)))
@@ -424,13 +425,53 @@ def all_dismissed(host):
 
 
 def hovering_entries(host, rng):
-    host.era = eras.TODAY
+    host.era = eras.NARROW
     no_room_to_open(host)
     opened_without_room(host)
     held_one_by_one(host)
     all_dismissed(host)
     for _ in range(70):
         mixture(host, rng, IDS, faults=0.5, play=hover_play.walk)
+
+
+# Frames of up to 256 contacts (request #107)
+
+
+def wide_entries(host, rng):
+    """Ten may be active: a wide frame needs room for those that it cancels; ignored or cancelled again, for none."""
+    host.era = eras.TODAY
+    for count in wide_play.COUNTS:
+        for sent in corpus.with_each_count(count, [wide_play.wide(count)]):
+            host.rest()
+            host.accepted(one(0x19, 1), one(0x0A, 2))
+            host.answered((sent, NO_ROOM), (dismiss(9), NOTHING), room=room_for(2) - 1)
+            host.answered((sent, CANCELLED), room=room_for(2))
+            host.answered((several(wide_play.wide(count, 0x1A)), IGNORED), (sent, CANCELLED), room=0)
+    host.rest()
+    host.accepted(DOWN)
+    for number, faulty in wide_play.short_faults():
+        host.fed([0, number, 0], [UPDATE, faulty, UPDATE], room=room_for(4))
+    faulty = list(wide_play.faults())
+    host.fed([number for number, _ in faulty] + [0], [each for _, each in faulty] + [LIFT], room=room_for(2))
+    for _ in range(12):
+        mixture(host, rng, list(range(256)), faults=0.3, play=wide_play.walk)
+
+
+def wide_rooms(host):
+    """256 may be active: room for a frame of 256, for three, for their cancel, and a byte too little for each."""
+    come, move, go = (several(each) for each in wide_play.down_moved_up(256))
+    bad = several(wide_play.twice(0x0A, 0, 255))
+    for sent, records in ((come, 257), (move, 257), (go, 257), (come, 257), (bad, 256)):
+        host.fed([13, 0], [sent, dismiss(9)], room=room_for(records) - 1)
+        host.fed([0, 13], [sent, several(wide_play.wide(1))], room=room_for(records))
+    host.fed([13, 0], [several(*wide_play.down_moved_up(256)), come], room=room_for(3 * 257) - 1)
+    host.rest()
+    host.accepted(several(*wide_play.down_moved_up(256)), room=room_for(3 * 257))
+    for count in wide_play.COUNTS:
+        come, move, go = (several(each) for each in wide_play.down_moved_up(count, first=count))
+        sent = [come, move, several(wide_play.wide(257)), go, dismiss(0)]
+        host.fed([0, 0, 7, 13, 0], sent, room=room_for(2 * count + 2))
+        host.accepted(go, room=room_for(count + 1))
 
 
 # Files
@@ -455,6 +496,7 @@ def main_batches():
     mixtures(host, rng, IDS, 130)
     padded_entries(host, random.Random(SEED + 4))
     hovering_entries(host, random.Random(SEED + 5))
+    wide_entries(host, random.Random(SEED + 6))
     return host
 
 
@@ -493,6 +535,17 @@ def crowded_batches():
     return host
 
 
+def wide_batches():
+    host, rng = Host(), random.Random(SEED + 7)
+    host.era = eras.TODAY
+    becoming_ready(host, client_ready(0, V101, 256))
+    host.fed([11, 7], [several(wide_play.wide(256, offset=1)), several(wide_play.wide(257, offset=1))])
+    wide_rooms(host)
+    for _ in range(6):
+        mixture(host, rng, list(range(256)), faults=0.3, play=wide_play.walk)
+    return host
+
+
 def single_batches():
     host, rng = Host(), random.Random(SEED + 3)
     becoming_ready(host, client_ready(0, V100, 1))
@@ -514,6 +567,7 @@ def more_inputs():
     last = batches.entry(AMPLE, 1, entries.join([DOWN]))
     yield "untimed", untimed_batches().input()
     yield "crowded", crowded_batches().input(corpus.cut_entry(last[:6], len(last) - 6))
+    yield "wide", wide_batches().input()
     yield "single", single_batches().input(b"\0")
     yield "never-ready", unready_batches().input(corpus.cut_entry(b"", 6))
     yield "example", example.input()

@@ -14,6 +14,7 @@ import corpus
 import eras
 import hover_play
 import padded_play
+import wide_play
 from corpus import client_ready, contact, dismiss, frame, message, touch
 from histories import (
     IGNORING,
@@ -95,7 +96,7 @@ def first_frames(history):
         b"\0\1\1\x20",  # 5: cut offset
         b"\0\1\1" + zero,  # 5: a padded 0, no contact
         b"\0\1\1" + one,  # 11: a padded 1
-        b"\0\1\x40\1",  # 7 before 11
+        b"\0\1\x40\1",  # 11: 64 contacts
         b"\0\1\1\1",  # 11 before the missing contact
         b"\0\1\1\1\1\x08",  # 11 before 8
         b"\0\1\0\1\0",  # 11 before 12
@@ -379,12 +380,13 @@ def main_history():
     padded_play.all_play(history)
     padded_play.walk(history, random.Random(SEED + 1), IDS, 250)
     hovering(history, random.Random(SEED + 2))
+    wide_frames(history, random.Random(SEED + 3))
     return history
 
 
 def hovering(history, rng):
-    """Frames chosen by today's rule of opening (request #106)."""
-    history.era = eras.TODAY
+    """Frames chosen by the rule of opening of request #106."""
+    history.era = eras.NARROW
     hover_play.hand_made(history)
     hover_play.walk(history, rng, IDS, 400)
     rest(history)
@@ -392,6 +394,14 @@ def hovering(history, rng):
     # What was made up to be ignored may have opened since.
     missed = [run for run in all_runs((IGNORING,), 3) if run not in history.coverage.runs[3]]
     flag_runs(history, rng, missed, IDS, apart=False)
+
+
+def wide_frames(history, rng):
+    """Frames of up to 256 contacts (request #107), of which ten may be active."""
+    history.era = eras.TODAY
+    wide_play.few_allowed(history)
+    wide_play.faults_between(history)
+    wide_play.walk(history, rng, list(range(256)), 40)
 
 
 OTHER_SETTINGS = (
@@ -463,7 +473,7 @@ HOVER_SETTINGS = (
 def hover_history(most, flags, begin, steps):
     """Hovering frames open from the first cancel on."""
     history, rng = History(), random.Random(f"{SEED} hover {most} {flags}")
-    history.era = eras.TODAY
+    history.era = eras.NARROW
     history.send(client_ready(flags, V101, most))
     if begin:
         begin(history)
@@ -475,9 +485,29 @@ def hover_history(most, flags, begin, steps):
 def hover_only_history(most):
     """Nobody ever presses."""
     history, rng = History(), random.Random(f"{SEED} hover only {most}")
-    history.era = eras.TODAY
+    history.era = eras.NARROW
     history.send(client_ready(0, V101, most))
     hover_play.hovering_panel(history, rng, IDS[: most + 2], 250)
+    return history
+
+
+WIDE_SETTINGS = (
+    # maxTouchContacts, ready flags, what comes first
+    (256, 0, wide_play.all_allowed),
+    (255, 1, wide_play.one_too_many),
+    (63, 3, wide_play.one_too_many),
+    (65535, 2, wide_play.without_time),
+)
+
+
+def wide_history(most, flags, begin):
+    """Wide frames from the first one on."""
+    history, rng = History(), random.Random(f"{SEED} wide {most} {flags}")
+    history.era = eras.TODAY
+    history.send(client_ready(flags, V101, most))
+    wide_play.first_frames(history, judged=flags & 2 == 0)
+    begin(history)
+    wide_play.walk(history, rng, list(range(256)), 20)
     return history
 
 
@@ -507,6 +537,8 @@ def more_histories():
         yield "hover-most{}-flags{}".format(*settings), hover_history(*settings)
     for most in (3, 10):
         yield f"hover-only-most{most}", hover_only_history(most)
+    for settings in WIDE_SETTINGS:
+        yield "wide-most{}-flags{}".format(*settings), wide_history(*settings)
 
 
 def write_more(directory, name, stdin):

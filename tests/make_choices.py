@@ -7,10 +7,11 @@ import corpus
 import eras
 import labels
 import make_bench
+import wide_play
 from corpus import contact, frame, head_record
 from histories import History
 from labels import AMPLE, HIGHEST_ROOM, Desk, at, cancel, choose, dismissal, mark, new_list, tap
-from reference import entries, house, programs
+from reference import entries, house, old_heads, programs
 from reference.integers import S2, S4, U8
 from reference.keeper import ENGAGED, HOVERING, OUT
 from reference.label import Button
@@ -368,7 +369,7 @@ def cancels(desk):
 
 
 def crowd(contact_ids, flags, point_of):
-    """Frames of at most 63 contacts."""
+    """Frames of as many contacts as they held before request #107."""
     contacts = [contact(each, flags, *point_of(each)) for each in contact_ids]
     return [frame(*contacts[first : first + 63]) for first in range(0, len(contacts), 63)]
 
@@ -501,7 +502,7 @@ def ill_contacts():
 
 
 def ill_heads():
-    """Any of the 99 bits that have to be 0."""
+    """Some of the 96 bits that have to be 0, and two of the count: 129 contacts, not so many there, and 257."""
     yield from (corpus.flipped(head_record(1, 77), bit) for bit in (0, 1, 7, 8, 21, 50, 77, 90, 97, 98))
 
 
@@ -686,6 +687,64 @@ def received(desk, rng, most, steps, faults):
             desk.show(rng.randrange(len(QUARTERS)), rng.choice((0, 1, 1)))
 
 
+# Frames of up to 256 contacts (request #107)
+
+
+def at_centres(ids, flags):
+    """One frame, each contact in the button of its id."""
+    return frame(*(contact(each, flags, *centre_of(each)) for each in ids))
+
+
+def wide_frames(desk):
+    """As many as a head says press and lift in one frame each; 257 are 14, though each record is good in its place."""
+    desk.new(*(Button(1000 + place, *cell(place), 1) for place in range(MOST_BUTTONS)))
+    for count in wide_play.COUNTS:
+        ids = [(5 * each) % 256 for each in range(count)]
+        lift, want = at_centres(ids, 0x04), [(each, 1000 + each % 64) for each in ids]
+        desk.none(at_centres(ids, 0x19), room=0)
+        desk.chosen(want, lift, room=count)
+    press, lift = at_centres(range(256), 0x19), contact(0, 0x04, *centre_of(0))
+    desk.ill(wide_play.joined(press, frame(lift)))
+    desk.ill(head_record(257) + records_behind_head(press), frame(lift))
+    desk.chosen([(0, 1000)], press, frame(lift))
+    desk.ill(head_record(511))
+    # All others are pressed.
+    desk.no_room(at_centres(range(1, 256), 0x0C), room=254)
+    desk.chosen([(each, 1000 + each % 64) for each in range(1, 256)], at_centres(range(1, 256), 0x0C), room=255)
+    desk.none(*(cancel(0x22, each) for each in range(1, 256)))
+
+
+def records_behind_head(one):
+    return corpus.records_of([one])[house.LENGTH :]
+
+
+def wide_orders(desk):
+    """One contact too few or too many behind a wide head, or another record among them; heads over 256."""
+    desk.new(*ROW)
+    press = house.pack_contact(contact(9, 0x19, *A))
+    taps = records_behind_head(frame(*[contact(9, flags, *A) for flags in (0x19, 0x04)] * 128))
+    desk.chosen([(9, 501)] * 128, head_record(256, U8.highest) + taps)
+    for part in (
+        head_record(256) + taps[: -house.LENGTH],
+        head_record(256) + taps + press,
+        head_record(64) + taps[: 63 * house.LENGTH],
+        head_record(64) + taps[: 65 * house.LENGTH],
+        # 64 is not 0, and 65 not 1.
+        head_record(64),
+        head_record(65) + press,
+        head_record(64) + taps[: 62 * house.LENGTH] + house.pack_contact(cancel(0x24, 9)) + press,
+        head_record(64) + taps[: 62 * house.LENGTH] + head_record(0) + press,
+        *(head_record(count) for count in (257, 258, 319, 320, 448)),
+        *(head_record(count) + press for count in (257, 321)),
+        *(corpus.flipped(head_record(64), bit) + taps[: 64 * house.LENGTH] for bit in (0, 95, 96, 97, 98)),
+    ):
+        desk.ill(*tap(B), part, room=0)
+        desk.chosen([(1, 502)], *tap(B))
+    # Heads as they were written before.
+    old = b"".join(old_heads.pack(house.Head(count, 77)) + taps[: count * house.LENGTH] for count in (0, 2, 62))
+    desk.chosen([(9, 501)] * 32, old, room=32)
+
+
 # Files
 
 
@@ -720,6 +779,8 @@ def all_calls():
     labels.play(desk, rng, list(range(4)), 800)
     labels.play(desk, rng, make_bench.IDS, 600)
     labels.play(desk, rng, list(range(256)), 200)
+    wide_frames(desk)
+    wide_orders(desk)
     return desk
 
 

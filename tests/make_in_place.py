@@ -10,6 +10,7 @@ import eras
 import make_bench
 import hover_play
 import padded_play
+import wide_play
 from histories import History, rest
 from reference import programs
 
@@ -29,10 +30,13 @@ def history():
     padded_play.strokes(sent)
     padded_play.faults_between(sent)
     padded_play.walk(sent, random.Random(SEED + 1), make_bench.IDS, 60)
-    sent.era = eras.TODAY
+    sent.era = eras.NARROW
     hover_play.hovering_hands(sent)
     hover_play.dismissals(sent)
     hover_play.walk(sent, random.Random(SEED + 2), make_bench.IDS, 60)
+    sent.era = eras.TODAY
+    wide_play.few_allowed(sent, (64, 256))
+    wide_play.walk(sent, random.Random(SEED + 3), list(range(256)), 20)
     return sent
 
 

@@ -3,6 +3,8 @@
 panel/stdin and stdout: a panel with time stamps (ready flags 1) that may have 70 contacts active.
 sent/stdin and stdout: a panel without (ready flags 3) that may have 10, in long use.
 more/sent-by-a-panel.stdin and .stdout: what 'sent' wrote, and what 'bench' prints for it; one of the further histories.
+by-hand/wide-mostN.stdin, .panel.stdout and .sent.stdout: panels that may have 255 or 256 contacts active, and what both
+programs give for them; what they sent is a further history each, more/wide-sent-by-a-panel-mostN.
 """
 
 import itertools
@@ -11,6 +13,7 @@ import random
 
 import corpus
 import make_writer
+import wide_play
 from corpus import contact, frame, head_record, message
 from histories import STARTS, all_lifted, approach, placed
 from panel_faults import faulty_arrivals, faulty_dismissals, faulty_readies, faulty_touches, there_and_back
@@ -203,7 +206,7 @@ def lengths(calls):
 
 
 def crowds(calls):
-    """maxTouchContacts active, and one more; 63 contacts in one frame (a head's count has 6 bits: it says no more)."""
+    """maxTouchContacts active, and one more; as many in one frame as it held before request #107."""
     most = calls.panel.max_touch_contacts
     if calls.panel.active:
         calls.accepted(touch(all_lifted(calls.panel)))
@@ -332,6 +335,85 @@ def damaged_records(calls):
         calls.accepted(touch(all_lifted(calls.panel)))
 
 
+# Frames of up to 256 contacts (request #107)
+
+WIDE_MOST = (255, 256)
+
+
+def at_rest(calls):
+    if calls.panel.active:
+        calls.accepted(touch(all_lifted(calls.panel)))
+
+
+def ill_heads():
+    """A head of more than 256 contacts, which are there or not: 14."""
+    yield corpus.records_of([wide_play.wide(wide_play.TOO_MANY)])
+    yield from (head_record(count) for count in (257, 320, 511))
+
+
+def wide_frames(calls, counts):
+    """Wider frames than contacts may be active: 17, as long as they are heads at all."""
+    most = calls.panel.max_touch_contacts
+    at_rest(calls)
+    calls.go_on_today()
+    calls.refused(17, *(touch(wide_play.wide(count)) for count in (most + 1, *counts) if most < count <= 256))
+    calls.refused(14, *map(touch_records, ill_heads()))
+    calls.accepted(touch(wide_play.wide(most)), touch(wide_play.wide(most, 0x1A, offset=5)))
+    calls.refused(14, *map(touch_records, ill_heads()))
+    # 14 comes behind 10, and before 16 and 17.
+    calls.refused(10, touch_records(head_record(257), time=1 << 30))
+    calls.accepted(take(SUSPEND))
+    calls.refused(14, touch_records(head_record(257)))
+    calls.refused(16, touch(wide_play.wide(most, 0x04)), touch(wide_play.wide(most)))
+    calls.accepted(take(RESUME))
+
+
+def all_exchanged(calls):
+    """A frame of twice as many contacts as may be active: all go, and as many others come; one more is 17."""
+    most = calls.panel.max_touch_contacts
+    gone, come = wide_play.wide(most, 0x04), wide_play.wide(most, first=most)
+    calls.refused(17, touch(wide_play.joined(come, gone, wide_play.wide(1, first=2 * most))))
+    calls.refused(17, touch(wide_play.joined(come, gone, wide_play.wide(1, first=most))))
+    exchanged = wide_play.joined(come, gone)
+    length = len(corpus.touch(0, [exchanged]))
+    calls.refused(13, touch(exchanged, room=length - 1))
+    calls.accepted(touch(exchanged, room=length))
+    at_rest(calls)
+
+
+def widest(calls):
+    """256 contacts at once, where 255 or 256 may be active."""
+    verdict = 0 if calls.panel.max_touch_contacts == 256 else 17
+    for count in wide_play.COUNTS:
+        come, move, go = wide_play.down_moved_up(count, first=256 - count)
+        refusal = verdict if count == 256 else 0
+        calls.refused(refusal, touch(come, move, go), touch(wide_play.wide(count, 0x0A)))
+        calls.refused(refusal, touch(wide_play.wide(count, 0x02, y=3)))
+    calls.refused(17, touch(wide_play.twice(0x0A, 0, 255)), touch(wide_play.twice(0x19, 254, 255)))
+    calls.accepted(touch(wide_play.wide(255, 0x0A)))
+    calls.refused(verdict, touch(wide_play.joined(wide_play.wide(255, 0x0A), wide_play.wide(1, first=255))))
+    at_rest(calls)
+    for length, refusal in ((4096, verdict), (4097, verdict or 2)):
+        at_rest(calls)
+        calls.refused(refusal, touch(*corpus.widened(wide_play.moving(), length)))
+    at_rest(calls)
+
+
+def wide_calls(most):
+    """A panel whose first frame is a wide one."""
+    calls, rng = Calls(), random.Random(f"{SEED} wide {most}")
+    calls.go_on_today()
+    calls.refused(14, touch_records(head_record(257)))
+    calls.refused(15, touch(wide_play.wide(256)))
+    calls.accepted(take(server_ready(V101)), ready(1, V101, most))
+    calls.refused(11, touch(wide_play.wide(255, offset=1)))
+    calls.refused(14, touch(wide_play.wide(257, offset=1)))
+    widest(calls)
+    wide_frames(calls, ())
+    walk(calls, rng, list(range(256)), 60)
+    return calls
+
+
 # Files
 
 
@@ -352,6 +434,10 @@ def panel_calls():
     crowds(calls)
     walk(calls, rng, IDS, 300)
     walk(calls, rng, list(range(256)), 300)
+    ready_again(calls)
+    wide_frames(calls, wide_play.COUNTS)
+    all_exchanged(calls)
+    walk(calls, random.Random(SEED + 2), list(range(256)), 40)
     return calls
 
 
@@ -374,7 +460,16 @@ def sent_calls():
     flag_pairs(calls, rng)
     crowds(calls)
     walk(calls, rng, IDS, 5500)
+    ready_again(calls)
+    wide_frames(calls, (64, 256))
+    all_exchanged(calls)
+    walk(calls, random.Random(SEED + 3), IDS, 100)
     return calls
+
+
+def ready_again(calls):
+    """A walk may end while it is suspended."""
+    calls.accepted(take(RESUME))
 
 
 def input_of(calls):
@@ -394,6 +489,20 @@ def write_corpus(directory, prefix, stdin, stdout):
     corpus.report(f"{directory}: {prefix}stdin {len(stdin)} bytes, {prefix}stdout {len(stdout)} bytes")
 
 
+def write_sent(directory, name, sent):
+    """What a panel sent is a history, of which a receiver takes everything."""
+    bench = programs.bench(sent)
+    check_bench(bench)
+    write_corpus(os.path.join(directory, "more"), f"{name}.", sent, bench)
+
+
+def write_wide(directory, most, stdin):
+    name, sent = f"wide-most{most}", programs.sent(stdin)
+    outputs = {f"{name}.panel.stdout": programs.panel(stdin), f"{name}.sent.stdout": sent}
+    corpus.write_files(os.path.join(directory, "by-hand"), {f"{name}.stdin": stdin, **outputs})
+    write_sent(directory, f"wide-sent-by-a-panel-most{most}", sent)
+
+
 def main():
     directory = corpus.output_directory()
     calls = panel_calls()
@@ -405,9 +514,11 @@ def main():
     stdin = input_of(calls)
     sent = programs.sent(stdin)
     write_corpus(os.path.join(directory, "sent"), "", stdin, sent)
-    bench = programs.bench(sent)
-    check_bench(bench)
-    write_corpus(os.path.join(directory, "more"), "sent-by-a-panel.", sent, bench)
+    write_sent(directory, "sent-by-a-panel", sent)
+    for most in WIDE_MOST:
+        calls = wide_calls(most)
+        calls.report(f"wide, most {most}")
+        write_wide(directory, most, input_of(calls))
 
 
 if __name__ == "__main__":

@@ -3,6 +3,7 @@
 import random
 
 import corpus
+import wide_play
 from corpus import all_longer, contact, frame, longer, message, minus_zero, touch, touch_fields, touch_of
 from reference import entries, house, integers, programs
 from reference.integers import S2, S4, U2, U4, U8
@@ -192,8 +193,8 @@ TWO_FAULTS = (
     ("00 81 00", 7, 7, "256 frames in their only form, none of them there"),
     ("00 80 41", 6, 7, "65 frames, padded"),
     ("00 41", 7, 7, "65 frames, none of them there"),
-    ("00 01 40", 7, 7, "64 contacts, and no offset"),
-    ("00 01 80 40", 6, 7, "64 contacts, padded"),
+    ("00 01 40", 5, 5, "64 contacts, and no offset"),
+    ("00 01 80 40", 6, 5, "64 contacts, padded, and no offset"),
     ("00 01 01 00 05 08", 8, 8, "fieldsPresent 8, then cut"),
     ("00 01 01 00 05 80 08", 6, 8, "fieldsPresent 8, padded"),
     ("00 01 01 00 05 00 00 00 1B 00", 9, 9, "flags not in the table, then a byte added"),
@@ -210,7 +211,7 @@ TWO_FAULTS = (
     ("00 01 01 00 05 01 00 00 19 00 00 00 40", 6, 0, "bottom minus zero"),
     ("00 01 01 00 05 01 00 00 19 00 00 00", 5, 5, "bottom missing"),
     ("00 02 00 00", 5, 5, "second frame missing"),
-    ("00 02 00 00 40 00", 7, 7, "second frame of 64 contacts, cut"),
+    ("00 02 00 00 40 00", 5, 5, "second frame of 64 contacts, cut"),
     ("00 00 00", 12, 12, "a byte after no frames"),
     ("20 00", 0, 0, "no fault: encodeTime 32"),
     ("40 20 00", 6, 0, "encodeTime 32, padded"),
@@ -224,9 +225,9 @@ PADDED_FAULTS = (
     ("C0 00 00", 5, 5, "encodeTime padded, cut"),
     ("00 80 00", 6, 0, "no frames, padded"),
     ("00 80 00 00", 6, 12, "no frames, padded, then a byte"),
-    ("00 01 40 20 00", 7, 7, "64 contacts, then the offset padded"),
-    ("00 01 80 40 20 00", 6, 7, "64 contacts, padded, then the offset padded"),
-    ("00 02 00 20 00 40", 6, 7, "the first offset padded, then 64 contacts"),
+    ("00 01 40 20 00", 6, 5, "64 contacts, then the offset padded, and no contact"),
+    ("00 01 80 40 20 00", 6, 5, "64 contacts, padded, then the offset padded, and no contact"),
+    ("00 02 00 20 00 40", 6, 5, "the first offset padded, then 64 contacts, and no offset"),
     ("00 01 01 20 00 05 08", 6, 8, "offset padded, then fieldsPresent 8"),
     ("00 01 01 00 05 80 08 60 00", 6, 8, "fieldsPresent 8, padded, then x padded"),
     ("00 01 01 00 05 08 60 00 00 19", 8, 8, "fieldsPresent 8, then x padded"),
@@ -420,6 +421,53 @@ def random_padded(rng):
         yield corpus.damaged(rng, touch_of(corpus.randomly_padded(rng, fields)))
 
 
+# Frames of up to 256 contacts (request #107)
+
+
+def wide_messages():
+    """Each number of contacts, with its count in every form; nobody asks whether an id is there twice."""
+    for count in (*wide_play.COUNTS, wide_play.TOO_MANY):
+        yield from corpus.with_each_count(count, [wide_play.wide(count, 0x1A, first=count, y=-9, offset=count)])
+    for count in (64, 256):
+        yield touch_of(all_longer(touch_fields(0, [wide_play.wide(count)])))
+    yield touch(0, [wide_play.twice(0x19, 0, 255)])
+    yield touch(0, [frame(*[SMALL] * 256), frame(), frame(*[SMALL] * 64)])
+    yield touch(0, [wide_play.wide(256), *[frame(offset=3)] * 62, wide_play.wide(255)])
+    yield touch(0, [wide_play.wide(256), *[frame(offset=3)] * 64])
+
+
+def long_wide_messages():
+    """Three frames of 256 contacts in 4,096 bytes, shortest and padded; one, which is not read in 4,097."""
+    full = [frame(*(LITTLE._replace(id=each) for each in range(256)))]
+    yield touch(0, corpus.widened(wide_play.moving(), 4096))
+    yield touch_of(corpus.padded_to(touch_fields(0, wide_play.moving()), 4096))
+    for length in (4096, 4097):
+        yield touch(0, corpus.widened(full, length))
+
+
+def wide_faults():
+    yield from (message(TOUCH, bytes.fromhex(text)) for text, _, _, _ in wide_play.FAULTS)
+    yield from (message(TOUCH, body) for _, body in wide_play.faulty_bodies())
+    # Each bit of a count of two bytes.
+    fields = touch_fields(0, [wide_play.wide(128)])
+    at = [field.name for field in fields].index("contactCount")
+    for bit in range(16):
+        yield message(TOUCH, corpus.with_field(fields, at, corpus.flipped(fields[at].data, bit)))
+    # The counts of two frames exchanged.
+    swapped = touch_fields(0, [wide_play.wide(64), wide_play.wide(65)])
+    first, second = (place for place, field in enumerate(swapped) if field.name == "contactCount")
+    swapped[first], swapped[second] = swapped[second], swapped[first]
+    yield touch_of(swapped)
+
+
+def random_wide(rng):
+    for _ in range(4):
+        contacts = [corpus.random_contact(rng, present=rng.choice((0, 0, 0, 2))) for _ in range(rng.randint(60, 256))]
+        sent = touch_fields(corpus.random_value(rng, U4), [frame(*contacts, offset=corpus.random_value(rng, U8))])
+        yield touch_of(corpus.randomly_padded(rng, sent) if rng.random() < 0.3 else sent)
+        yield corpus.damaged(rng, touch(1, [wide_play.wide(rng.randint(60, 256))]))
+
+
 # Files
 
 
@@ -433,6 +481,9 @@ def all_messages():
     for group in (faults_beside_padding, padded_cuts, another_maker):
         yield from group()
     yield from random_padded(random.Random(SEED + 1))
+    for group in (wide_messages, long_wide_messages, wide_faults):
+        yield from group()
+    yield from random_wide(random.Random(SEED + 2))
 
 
 def input_of(payloads):

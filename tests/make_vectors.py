@@ -3,7 +3,7 @@
 import random
 
 import corpus
-from reference import house, integers, programs
+from reference import house, integers, old_heads, programs
 from reference.integers import KINDS, S2, S4, U2, U4, U8
 
 SEED = 20260102
@@ -52,6 +52,10 @@ def write_payload(kind, value, lent):
 
 def head_payload(count, offset, lent):
     return b"h" + bytes([count]) + offset.to_bytes(8, "big") + bytes([lent])
+
+
+def wide_head_payload(count, offset, lent):
+    return b"H" + count.to_bytes(2, "big") + offset.to_bytes(8, "big") + bytes([lent])
 
 
 def contact_payload(contact, lent):
@@ -212,7 +216,7 @@ def random_wide_contact(rng):
 
 
 def broken_heads():
-    """Heads with one unused bit set: each of the 99."""
+    """Heads with one bit behind the offset set: each of the 96 unused ones, and the three high ones of the count."""
     record = house.pack_head(house.Head(5, 12345678901234567))
     for bit in range(99):
         yield corpus.flipped(record, bit)
@@ -345,13 +349,85 @@ def any_lengths(rng):
         yield b"a" + bytes([kind]) + b"\x00"
 
 
+# Heads of up to 256 contacts (request #107)
+
+# All, none, every other, and the ends of the offset's 61 bits, beside which the two parts of the count stand.
+OFFSETS = (0, (1 << 61) - 1, 1, 1 << 60, 0x0AAAAAAAAAAAAAAA, 0x1555555555555555, 0x0123456789ABCDEF)
+COUNT_ENDS = (0, 1, 63, 64, 65, 127, 128, 191, 192, 255, 256, 257, 319, 320, 448, 510, 511)
+
+
+def offset_beside(count):
+    return OFFSETS[count % len(OFFSETS)]
+
+
+def heads_written(rng):
+    """Every count that nine bits hold, and greater ones, of which the rest is lost."""
+    for count in range(256):
+        yield head_payload(count, offset_beside(count), 21)
+    for count in range(512):
+        yield wide_head_payload(count, offset_beside(count), 21)
+    for count in COUNT_ENDS:
+        for offset in (0, (1 << 61) - 1, 1 << 61, (1 << 64) - 1):
+            yield wide_head_payload(count, offset, 21)
+    for count in (512, 513, 575, 576, 768, 769, 1023, 1024, 0x7FFF, 0x8000, 0x8100, 0xFFFF):
+        for offset in OFFSETS[:2]:
+            yield wide_head_payload(count, offset, 21)
+    for count in (0, 256, 511):
+        for lent in (0, 1, 8, 9, 20, 21, 22, 32):
+            yield wide_head_payload(count, OFFSETS[-1], lent)
+    for _ in range(40):
+        yield wide_head_payload(rng.randrange(1 << 16), rng.getrandbits(rng.randint(1, 64)), rng.choice((20, 21, 30)))
+
+
+def heads_not_written():
+    """A body of any other length, or too much room."""
+    whole = wide_head_payload(256, 5, 21)
+    yield from (whole[:length] for length in range(1, len(whole)))
+    yield from (whole + more for more in (b"\0", b"\x15", bytes(9)))
+    yield from (whole[:-1] + bytes([lent]) for lent in (33, 64, 255))
+    # Each of the two commands with the other's body.
+    yield b"H" + head_payload(64, 5, 21)[1:]
+    yield b"h" + whole[1:]
+
+
+def heads_read(rng):
+    """Well formed up to 256 contacts; read whether or not they are."""
+    for count in range(512):
+        yield record_payload(corpus.head_record(count, offset_beside(count)))
+    # A single bit: each of the 96 unused ones, and the three high ones of the count.
+    for bit in range(99):
+        yield record_payload(corpus.flipped(corpus.head_record(0), bit))
+    for bit in range(96):
+        yield record_payload(corpus.flipped(corpus.head_record(256, offset_beside(bit)), bit))
+    for count in (257, 300, 511):
+        yield from (record_payload(corpus.flipped(corpus.head_record(count), bit)) for bit in (0, 95))
+    for bits in range(50):
+        head = corpus.head_record(rng.randrange(512), rng.getrandbits(61))
+        yield record_payload(head[:-1] + bytes([bits % 2]) + rng.randbytes(bits % 5))
+
+
+def old_heads_read():
+    """Heads of the layout that was before: of every count that there was."""
+    for count in range(old_heads.MOST_CONTACTS + 1):
+        for offset in (offset_beside(count), offset_beside(count + 1)):
+            yield record_payload(old_heads.pack(house.Head(count, offset)))
+
+
 def all_payloads():
     """What is read strictly is read in any length as well, and nothing of that twice."""
     payloads = list(payloads_but_any_length())
     known = set(payloads)
     more = [b"a" + payload[1:] for payload in payloads if payload[:1] == b"r"]
     more += any_lengths(random.Random(SEED + 1))
-    return payloads + [payload for payload in dict.fromkeys(more) if payload not in known]
+    return payloads + [payload for payload in dict.fromkeys(more) if payload not in known] + list(wide_payloads())
+
+
+def wide_payloads():
+    rng = random.Random(SEED + 2)
+    yield from heads_written(rng)
+    yield from heads_not_written()
+    yield from heads_read(rng)
+    yield from old_heads_read()
 
 
 def payloads_but_any_length():
@@ -385,7 +461,7 @@ def outcome(shape, words):
         return " ".join(words)
     if shape == "d":
         return f"{words[0]} {words[-1]}"
-    return f"refused {words[0]}" if shape in "whc" and words[0] != "0" else "good"
+    return f"refused {words[0]}" if shape in "whHc" and words[0] != "0" else "good"
 
 
 def main():

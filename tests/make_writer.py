@@ -3,6 +3,7 @@
 import random
 
 import corpus
+import wide_play
 from corpus import contact, frame, head_record, records_of
 from reference import house, programs
 from reference.integers import S2, S4, U4, U8
@@ -188,11 +189,67 @@ def random_ones(rng):
         yield payload(rng.getrandbits(32), rng.randbytes(21 * rng.randint(1, 3)))
 
 
+# Heads of up to 256 contacts (request #107)
+
+
+def wide_frames():
+    """Each with as many contacts behind it as it says; 257 are 14 all the same."""
+    for count in (*wide_play.COUNTS, wide_play.TOO_MANY):
+        yield of_frames(count, wide_play.wide(count, first=count, y=-9, offset=count))
+    # Whether an id is there twice is not asked.
+    yield of_frames(0, frame(*[SMALL] * 256))
+    yield of_frames(0, *[wide_play.wide(count, offset=count) for count in (64, 0, 65, 63, 1, 128)])
+    for head in (head_record(64, 7), head_record(64, U8.highest), head_record(65, U8.highest)):
+        # 64 is not 0 and 65 not 1: the high bits count.
+        yield payload(0, head)
+        yield payload(0, head + house.pack_contact(SMALL))
+
+
+def wide_heads_alone():
+    """Counts over 256, with few contacts behind them or none; 10 comes before 14, and 14 before 7 and 2."""
+    good = house.pack_contact(SMALL)
+    for count in (257, 258, 319, 320, 383, 384, 448, 511):
+        yield payload(0, head_record(count))
+        yield payload(0, head_record(count) + good * (count % 64))
+    for time in (U4.highest, U4.highest + 1):
+        yield payload(time, head_record(257))
+        yield of_frames(time, wide_play.wide(64))
+    yield payload(0, records_of([frame()] * 65) + head_record(257))
+    yield of_frames(0, wide_play.wide(64), *[frame()] * 63)
+    yield of_frames(0, wide_play.wide(64), *[frame()] * 64)
+
+
+def wrong_wide_frames():
+    """One contact too few or too many; a head, an unused bit or a bad contact in a wide frame."""
+    good = house.pack_contact(SMALL)
+    for count, following in ((64, 63), (64, 65), (128, 127), (256, 255), (256, 257), (257, 256)):
+        yield payload(0, head_record(count) + good * following)
+    yield payload(0, head_record(256) + good * 255 + head_record(0))
+    yield payload(0, head_record(64) + good * 63 + BAD)
+    yield payload(0, head_record(256) + good * 128 + BAD + good * 127)
+    for bit in (0, 47, 95):
+        yield payload(0, corpus.flipped(head_record(64), bit) + good * 64)
+    # What a flipped high bit makes of a head with its contacts.
+    for bit in (96, 97, 98):
+        yield payload(0, corpus.flipped(head_record(64), bit) + good * 64)
+        yield payload(0, corpus.flipped(head_record(0), bit) + good * 64)
+
+
+def wide_lengths():
+    """Three frames of 256 contacts in 4,096 bytes, and one, which is not written in 4,097."""
+    full = [frame(*(contact_with(7)._replace(id=each) for each in range(256)))]
+    yield of_frames(0, *corpus.widened(wide_play.moving(), 4096))
+    for length in (4096, 4097):
+        yield of_frames(0, *corpus.widened(full, length))
+
+
 def all_payloads():
     rng = random.Random(SEED)
     for group in (good_shapes, times, frame_counts, contact_counts, lengths, damaged_records, wrong_orders, not_whole):
         yield from group()
     yield from random_ones(rng)
+    for group in (wide_frames, wide_heads_alone, wrong_wide_frames, wide_lengths):
+        yield from group()
 
 
 def main():

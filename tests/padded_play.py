@@ -104,7 +104,7 @@ def faults():
         yield 4, touch_of(all_longer(fields, more)) + b"\0"
         for number, name, value in (
             (7, "frameCount", 65),
-            (7, "contactCount", 64),
+            (5, "contactCount", 64),
             (8, "fieldsPresent", 8),
             (9, "contactFlags", 0x1B),
             (10, "orientation", 360),
@@ -156,8 +156,8 @@ def first_frames(history, length, judged):
             answered(history, corpus.message(3, head + b"\1\x80\x08"), number or 8)
             answered(history, corpus.message(3, head + b"\1\0\0\0\x40\x1b"), number or 9)
             answered(history, corpus.message(3, head + b"\1\0\0\0\x40\x19\0"), number or 12)
-    # 7 comes before 11.
-    answered(history, corpus.message(3, b"\0\1\x80\x40\x20\1"), 7)
+    # 64 contacts, none of them there.
+    answered(history, corpus.message(3, b"\0\1\x80\x40\x20\1"), 11 if judged else 5)
     if judged:
         for more in PADDINGS:
             answered(history, padded(down._replace(offset=1), more=more), 11)

@@ -4,6 +4,7 @@ from collections import Counter
 from dataclasses import fields
 
 import corpus
+import eras
 from corpus import records_of
 from histories import some_frames
 from reference import messages, programs, receiver
@@ -71,13 +72,19 @@ def bad_entries():
 
 
 class Calls:
-    """Entries for one fresh panel, with a fresh receiver that gets what it writes."""
+    """Entries for one fresh panel, with a fresh receiver that gets what it writes.
+
+    Until 'go_on_today' frames are chosen as before request #107.
+    """
 
     def __init__(self):
         self.entries = []
         self.panel = Panel()
-        self.keeper = receiver.Receiver()
+        self.keeper = eras.NarrowReceiver()
         self.counts = Counter()  # by call and refusal
+
+    def go_on_today(self):
+        self.keeper = receiver.Receiver(**vars(self.keeper))
 
     def call(self, payload):
         """The refusal; None for a bad entry."""

@@ -13,9 +13,10 @@ import make_panel
 import make_plain
 import padded_play
 import panels
+import wide_play
 from corpus import contact, frame
 from histories import History
-from reference import entries, house, integers, label, messages, panel, programs, receiver
+from reference import entries, house, integers, label, messages, old_heads, panel, programs, receiver
 from reference.batch import Batch, receive_all
 from reference.integers import S2, S4, U2, U4, U8
 from reference.label import Choice, Chosen, Label, choose
@@ -229,8 +230,8 @@ def check_limits():
     ):
         same(f"{name} {good}", plain_refusals(over(fields, name, good)), (0, 0))
         same(f"{name} {bad}", plain_refusals(over(fields, name, bad)), (number, number))
-    for count, number in ((63, 0), (64, 7)):
-        many = frame(*(contact(each, 0x19) for each in range(count)))
+    for count, number in ((63, 0), (64, 0), (127, 0), (128, 0), (255, 0), (256, 0), (257, 7)):
+        many = frame(*(contact(each % 256, 0x19) for each in range(count)))
         same(f"{count} contacts", plain_refusals(corpus.touch(0, [many])), (number, number))
         padded = padded_play.padded(many)
         same(f"{count} contacts, padded", plain_refusals(padded), (6, number))
@@ -246,8 +247,10 @@ def check_limits():
 
 
 def check_first_fault_answers():
-    for text, strict, other, why in make_plain.TWO_FAULTS + make_plain.PADDED_FAULTS:
+    for text, strict, other, why in make_plain.TWO_FAULTS + make_plain.PADDED_FAULTS + wide_play.FAULTS:
         same(why, plain_refusals(corpus.message(3, bytes.fromhex(text))), (strict, other))
+    for number, body in wide_play.faulty_bodies():
+        same(f"{body[:6].hex()}, {len(body)} bytes", plain_refusals(corpus.message(3, body)), (number, number))
 
 
 def long_frames():
@@ -554,7 +557,7 @@ def check_house(rng):
         one = corpus.random_contact(rng)
         record = house.pack_contact(one)
         same("contact", (house.unpack(record), house.well_formed(record)), (one, True))
-        head = house.Head(rng.randrange(64), rng.randrange(1 << 61))
+        head = house.Head(rng.randint(0, 256), rng.randrange(1 << 61))
         record = house.pack_head(head)
         same("head", (house.unpack(record), house.well_formed(record)), (head, True))
     for wrong in (
@@ -566,6 +569,132 @@ def check_house(rng):
         house.Contact(kind=3, flags=0x22),
     ):
         same(f"{wrong}", house.well_formed(house.pack_contact(wrong)), False)
+
+
+# Heads, with their bytes worked out by hand: byte 0 has the kind and the count's low six bits, bytes 1 to 7 the
+# offset's first 56 bits, byte 8 its last five and the count's three high ones.
+
+HIGHEST_OFFSET = (1 << 61) - 1
+HEADS = (
+    (0, 0, "00 00 00 00 00 00 00 00 00", True),
+    (1, 0, "01 00 00 00 00 00 00 00 00", True),
+    (63, 0, "3F 00 00 00 00 00 00 00 00", True),
+    (64, 0, "00 00 00 00 00 00 00 00 01", True),
+    (65, 1, "01 00 00 00 00 00 00 00 09", True),
+    (127, 0, "3F 00 00 00 00 00 00 00 01", True),
+    (128, 31, "00 00 00 00 00 00 00 00 FA", True),
+    (255, 32, "3F 00 00 00 00 00 00 01 03", True),
+    (256, 0, "00 00 00 00 00 00 00 00 04", True),
+    (256, HIGHEST_OFFSET, "00 FF FF FF FF FF FF FF FC", True),
+    (63, HIGHEST_OFFSET, "3F FF FF FF FF FF FF FF F8", True),
+    (257, 0, "01 00 00 00 00 00 00 00 04", False),
+    (320, 0, "00 00 00 00 00 00 00 00 05", False),
+    (511, HIGHEST_OFFSET, "3F FF FF FF FF FF FF FF FF", False),
+)
+
+
+def check_heads():
+    for count, offset, text, well in HEADS:
+        record, head = bytes.fromhex(text) + bytes(12), house.Head(count, offset)
+        same(f"{head} written", house.pack_head(head), record)
+        same(f"{text} read", (house.unpack(record), house.well_formed(record)), (head, well))
+        for bit in range(96):
+            ill = corpus.flipped(record, bit)
+            same(f"{text}, bit {bit}", (house.unpack(ill), house.well_formed(ill)), (head, False))
+    for count in range(1 << 16):
+        written = house.unpack(house.pack_head(house.Head(count, count << 45)))
+        same(f"a count of {count}", written, (count % 512, (count << 45) % (1 << 61)))
+
+
+def check_head_lines():
+    """The commands 'h', 'H' and 'd' of 'vectors'."""
+    widest = "00" * 8 + "04" + "00" * 12
+    for rest, line in (
+        ("48 01 00 00 00 00 00 00 00 00 00 15", f"0 21 {widest}"),
+        ("48 03 00 00 00 00 00 00 00 00 00 16", f"0 21 {widest}ee"),
+        ("48 01 00 00 00 00 00 00 00 00 00 14", f"13 0 {'ee' * 20}"),
+        ("48 02 00 00 00 00 00 00 00 00 00 15", f"0 21 {'00' * 21}"),
+        ("48 01 00 00 00 00 00 00 00 00 00 21", "unknown"),
+        ("48 01 00 00 00 00 00 00 00 00 00", "unknown"),
+        ("48 01 00 00 00 00 00 00 00 00 00 15 00", "unknown"),
+        ("68 40 00 00 00 00 00 00 00 00 15", f"0 21 {'00' * 8}01{'00' * 12}"),
+        ("68 01 00 00 00 00 00 00 00 00 00 15", "unknown"),
+        (f"64 {widest}", "head 256 0 well"),
+        (f"64 01 {widest[2:]}", "head 257 0 ill"),
+        (f"64 {widest[:-2]} 01", "head 256 0 ill"),
+    ):
+        same(rest, programs.vector_line(bytes.fromhex(rest)), line)
+
+
+# The head of before (request #107): "Every stored head therefore reads as it did. An older reader refuses a count
+# above 63 by 14."
+
+
+def check_old_heads(rng):
+    same("old head layout", sum(width for _, width in old_heads.LAYOUT), 168)
+    offsets = (0, 1, 31, 32, HIGHEST_OFFSET, *(rng.randrange(1 << 61) for _ in range(20)))
+    for offset in offsets:
+        for count in range(512):
+            check_both_layouts(house.Head(count, offset))
+    for _ in range(2000):
+        # Any bits at all, many of them 0.
+        record = bytes([rng.randrange(64)]) + rng.randbytes(8) + rng.choice((bytes(12), rng.randbytes(12)))
+        if old_heads.well_formed(record):
+            same(f"{record.hex()} as it was", house.unpack(record), old_heads.unpack(record))
+            same(f"{record.hex()} well formed", house.well_formed(record), True)
+        if house.unpack(record).count > 63:
+            same(f"{record.hex()} by an older reader", old_heads.well_formed(record), False)
+
+
+def check_both_layouts(head):
+    record, old = house.pack_head(head), old_heads.pack(head._replace(count=head.count % 64))
+    same(f"{head} to an older reader", old_heads.well_formed(record), head.count <= 63)
+    same(f"{head} to a reader", house.well_formed(record), head.count <= 256)
+    if head.count <= 63:
+        same(f"{head} in both layouts", record, old)
+        same(f"{head} as it was", (house.unpack(old), old_heads.unpack(old)), (head, head))
+        same(f"{head} well formed as it was", (house.well_formed(old), old_heads.well_formed(old)), (True, True))
+
+
+def check_record_files():
+    """Every head that a receiver writes: up to 63 contacts as it was before, and wider ones 14 to a reader of then."""
+    for history, wide in (
+        (make_bench.padded_history(2, 0), False),
+        (make_bench.wide_history(256, 0, wide_play.all_allowed), True),
+    ):
+        records = [each for each in chunks(programs.records(entries.join(history.entries))) if house.kind_of(each) == 0]
+        same("heads wider than before", any(house.unpack(record).count > 63 for record in records), wide)
+        for record in records:
+            same(f"{record.hex()} well formed", house.well_formed(record), True)
+            check_both_layouts(house.unpack(record))
+
+
+def check_widest_frames():
+    """One frame of 256 contacts through every reader: what it writes, its cancel, one contact more, one id twice."""
+    ready, ids = corpus.client_ready(0, 0x00010001, 256), range(256)
+    down, over = (frame(*(contact(each % 256, 0x19, each, -each) for each in range(count))) for count in (256, 257))
+    twice = frame(*down.contacts[:255], down.contacts[0])
+    for most, bad, want in (
+        (256, frame(contact(9, 0x1A, 9, 9), contact(9, 0x1A, 9, 9)), ((0, 1, 0, 0, 0, 257), (0, 0, 0, 1, 0, 256))),
+        (255, twice, ((0, 0, 0, 1, 0, 0), (0, 0, 0, 1, 0, 0))),
+        (256, over, ((0, 1, 0, 0, 0, 257), (7, 0, 0, 0, 0, 0))),
+    ):
+        keeper, output = received_all(ready[:-2] + most.to_bytes(2, "little")), bytearray(257 * 21)
+        keeper, first = receiver.receive(keeper, sent(down), output)
+        if first.records:
+            head = bytes.fromhex("00 00 00 00 00 00 00 00 04") + bytes(12)
+            same("257 records", bytes(output), head + b"".join(map(house.pack_contact, down.contacts)))
+        keeper, second = receiver.receive(keeper, sent(bad), output)
+        same(f"{most} active", (first, second), want)
+        if second.records:
+            gone = [house.Contact(2, 0x24, 0, each, each, -each) for each in ids]
+            same("256 cancelled", [house.unpack(record) for record in chunks(output[: 256 * 21])], gone)
+    small_room, keeper = bytearray(257 * 21 - 1), received_all(ready)
+    same("a byte too little", receiver.receive(keeper, sent(down), small_room), (keeper, receiver.Answer(13)))
+    same("written", messages.write_touch(bytearray(4096), 0, corpus.records_of([down]))[0], 0)
+    same("one more written", messages.write_touch(bytearray(4096), 0, corpus.records_of([over])), (14, 0))
+    same("one more chosen", choose(Label(), [], corpus.records_of([over]), []), (Label(), (14, 0)))
+    same("chosen", choose(Label(), [], corpus.records_of([down]), [])[1], (0, 0))
 
 
 # The six messages.
@@ -830,8 +959,8 @@ def check_panel_output():
 
 
 def check_panel_corpora():
-    """Both programs on both corpora, and what was sent into the receiver."""
-    for calls in (make_panel.panel_calls(), make_panel.sent_calls()):
+    """Both programs on all corpora, and what was sent into the receiver."""
+    for calls in (make_panel.panel_calls(), make_panel.sent_calls(), *map(make_panel.wide_calls, make_panel.WIDE_MOST)):
         data = make_panel.input_of(calls)
         lines = [line.split(" ") for line in programs.panel(data).splitlines()]
         sent_messages = programs.sent(data)
@@ -909,6 +1038,7 @@ BATCH_MAKERS = (
     make_batch.main_batches,
     make_batch.untimed_batches,
     make_batch.crowded_batches,
+    make_batch.wide_batches,
     make_batch.single_batches,
 )
 
@@ -1266,6 +1396,11 @@ def main():
     check_untimed_records()
     check_cancel_records()
     check_house(rng)
+    check_heads()
+    check_head_lines()
+    check_old_heads(rng)
+    check_record_files()
+    check_widest_frames()
     check_messages()
     check_round_trip(rng)
     check_reading_file()

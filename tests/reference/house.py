@@ -9,7 +9,12 @@ CONTACT_KIND = 1
 CANCEL_KIND = 2
 DISMISSAL_KIND = 3
 
-HEAD_LAYOUT = (("kind", 2), ("count", 6), ("offset", 61), ("unused", 99))
+# In one frame (request #107).
+MOST_CONTACTS = 256
+
+# The count is in two parts: the low one is where the whole count was before request #107 (old_heads.py).
+HEAD_LAYOUT = (("kind", 2), ("count_low", 6), ("offset", 61), ("count_high", 3), ("unused", 96))
+COUNT_LOW_BITS = dict(HEAD_LAYOUT)["count_low"]
 
 CONTACT_LAYOUT = (
     ("kind", 2),
@@ -75,7 +80,8 @@ def pack(layout, values):
 
 
 def pack_head(head):
-    return pack(HEAD_LAYOUT, {"kind": HEAD_KIND, **head._asdict()})
+    values = {"count_low": head.count, "offset": head.offset, "count_high": head.count >> COUNT_LOW_BITS}
+    return pack(HEAD_LAYOUT, {"kind": HEAD_KIND, **values})
 
 
 def pack_contact(contact):
@@ -103,7 +109,7 @@ def unpack(record):
     """A Head or a Contact. Total over any 21 bytes; whether they are well formed is another question."""
     if kind_of(record) == HEAD_KIND:
         values = split(HEAD_LAYOUT, record)
-        return Head(values["count"], values["offset"])
+        return Head(values["count_low"] + (values["count_high"] << COUNT_LOW_BITS), values["offset"])
     values = split(CONTACT_LAYOUT, record)
     del values["unused"]
     return Contact(**values)
@@ -112,7 +118,7 @@ def unpack(record):
 def well_formed(record):
     kind = kind_of(record)
     if kind == HEAD_KIND:
-        return split(HEAD_LAYOUT, record)["unused"] == 0
+        return split(HEAD_LAYOUT, record)["unused"] == 0 and unpack(record).count <= MOST_CONTACTS
     contact = unpack(record)
     if split(CONTACT_LAYOUT, record)["unused"] != 0 or not contact_well_formed(contact):
         return False

@@ -33,7 +33,6 @@ DISMISS = 6
 HEADER_LENGTH = 6
 LONGEST_MESSAGE = 4096
 MOST_FRAMES = 64
-MOST_CONTACTS = 63
 
 VERSIONS = (0x00010000, 0x00010001)
 SHOW_TOUCH_VISUALS = 1
@@ -164,7 +163,7 @@ def touch_body(body, first_offset_zero=False):
 
 def frame(body, offset_zero):
     contact_count = body.integer(U2)
-    refuse_unless(contact_count <= MOST_CONTACTS, BAD_COUNT)
+    refuse_unless(contact_count <= house.MOST_CONTACTS, BAD_COUNT)
     offset = body.integer(U8)
     refuse_unless(offset == 0 or not offset_zero, BAD_OFFSET)
     return Frame(offset, tuple(contact(body) for _ in range(contact_count)))

@@ -359,12 +359,16 @@ def write_line(rest):
     return lent_line(rest[10], lambda out: integers.write(kind, out, signed(rest[1:10])))
 
 
-def head_line(rest):
+def wide_head_line(rest):
+    return head_line(rest, count_bytes=2)
+
+
+def head_line(rest, count_bytes=1):
     """Count, eight bytes of offset, the length of the output lent."""
-    if len(rest) != 10:
+    if len(rest) != count_bytes + 9:
         return None
-    head = house.Head(rest[0], big_endian(rest[1:9]))
-    return lent_line(rest[9], lambda out: written(out, lambda: house.pack_head(head)))
+    head = house.Head(big_endian(rest[:count_bytes]), big_endian(rest[count_bytes:-1]))
+    return lent_line(rest[-1], lambda out: written(out, lambda: house.pack_head(head)))
 
 
 def contact_line(rest):
@@ -409,6 +413,7 @@ VECTOR_LINES = {
     b"r": strict_read_line,
     b"w": write_line,
     b"h": head_line,
+    b"H": wide_head_line,
     b"c": contact_line,
     b"d": record_line,
 }

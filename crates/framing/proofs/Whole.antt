@@ -14,15 +14,15 @@ use Rattle.house.specs.Fits.{HeadFits, ContactFits}
 use Rattle.house.specs.declared.Head.{Head}
 use Rattle.house.specs.declared.Contact.{Contact}
 use Rattle.house.proofs.Round.{length-head, length-contact, kind-head, kind-contact, head-back}
-use Rattle.well_formed.specs.WellFormed.{contactWell, kindWell, wellFormed}
+use Rattle.well_formed.specs.WellFormed.{headWell, contactWell, kindWell, wellFormed}
 use Rattle.well_formed.proofs.Front.{well-alone}
 use Rattle.well_formed.proofs.Round.{head-well, contact-well}
 use Rattle.framing.specs.Whole.{Formed, Framed, ends, head, contact, cancel, dismissal}
 
 -- ---- one record
 
-pub head-formed : (h : Head) → Formed layout.head (headBytes h)
-head-formed h = record { long = length-head h; well = rw append-nil at (head-well h []); kind = kind-head h }
+pub head-formed : (h : Head) → HeadFits h → headWell h ≡ true → Formed layout.head (headBytes h)
+head-formed h f w = record { long = length-head h; well = rw append-nil at (head-well h [] f w); kind = kind-head h }
 
 pub contact-formed : (k : ℕ) (c : Contact) → 1 ≤ k → k < 4 → ContactFits c → contactWell c ≡ true → kindWell k c ≡ true → Formed k (contactBytes k c)
 contact-formed k c low high f w v =
@@ -30,8 +30,8 @@ contact-formed k c low high f w v =
 
 -- ---- records, one after the other
 
-pub head-framed : (h : Head) (t : List ℕ) → HeadFits h → Framed (h .count) t → Framed zero (headBytes h ++ t)
-head-framed h t f k = head (headBytes h) t (head-formed h) (subst (λ (n : ℕ). Framed n t) (sym (ap (λ (x : Head). x .count) (head-back h f))) k)
+pub head-framed : (h : Head) (t : List ℕ) → HeadFits h → headWell h ≡ true → Framed (h .count) t → Framed zero (headBytes h ++ t)
+head-framed h t f w k = head (headBytes h) t (head-formed h f w) (subst (λ (n : ℕ). Framed n t) (sym (ap (λ (x : Head). x .count) (head-back h f))) k)
 
 pub framed-then : (n : ℕ) (a b : List ℕ) → Framed n a → Framed zero b → Framed n (a ++ b)
 framed-then n a b ends k = k

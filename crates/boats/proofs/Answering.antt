@@ -12,7 +12,7 @@ use lib.Seq.{getD-set-same, getD-set-other}
 use Rattle.house.specs.declared.Contact.{Contact}
 use Rattle.house.specs.declared.Record.{Record}
 use Rattle.house.specs.declared.Record.the-variants as Record
-use Rattle.house.proofs.WellFormed.{never}
+use Rattle.well_formed.proofs.WellFormed.{never}
 use Rattle.machine.specs.Table.{contacts}
 use Rattle.stream.specs.Asked.{All}
 use Rattle.presses.specs.Buttons.{nowhere, hitIn}

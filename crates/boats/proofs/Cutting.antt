@@ -14,10 +14,12 @@ use Rattle.slices.specs.Writing.{laid}
 use Rattle.slices.proofs.Tails.{laid-length, laid-next}
 use Rattle.house.specs.Fields.{recordBytes}
 use Rattle.house.specs.Layout.{recordOf}
-use Rattle.house.specs.WellFormed.{all, wellFormed}
 use Rattle.house.specs.Records as house
 use Rattle.house.specs.declared.Point.{Point}
-use Rattle.house.proofs.WellFormed.{all-none, all-split, all-join, all-all}
+use Rattle.house.proofs.Front.{record-alone}
+use Rattle.well_formed.specs.WellFormed.{all, wellFormed}
+use Rattle.well_formed.proofs.WellFormed.{all-none, all-split, all-join, all-all}
+use Rattle.well_formed.proofs.Front.{well-alone}
 use Rattle.presses.specs.Buttons.{hitIn}
 use Rattle.presses.specs.Choosing.{Choice, recordsIn, allWell, inFrames, byTable, isTaken, isTakenFrom, keptOf, chosenIn, numbersOf, refusalOf, Chooses}
 use Rattle.presses.specs.declared.Button.{Button}
@@ -27,7 +29,7 @@ use Rattle.presses.specs.declared.Chosen.{Chosen}
 use Rattle.boats.specs.Cutting.{BetweenFrames, AnsweredInTwo, CutsInTwo}
 use Rattle.boats.proofs.Taking.{Takes, takes, refuses}
 use Rattle.presses.proofs.Putting.{numbers-long}
-use Rattle.boats.proofs.Parts.{record-alone, well-alone, records-append, frames-append, choices-append, kept-append, chosen-append, table-append}
+use Rattle.boats.proofs.Parts.{records-append, frames-append, choices-append, kept-append, chosen-append, table-append}
 
 -- ---- which calls are accepted
 

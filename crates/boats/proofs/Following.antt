@@ -14,14 +14,15 @@ use Rattle.house.specs.Fields.{recordBytes}
 use Rattle.house.specs.Layout.{kindOf, headIn, contactOf, recordOf, touched, cancelled, dismissed}
 use Rattle.house.specs.Layout as layout
 use Rattle.house.specs.Records as house
-use Rattle.house.specs.WellFormed.{all, wellFormed}
 use Rattle.house.specs.declared.Point.{Point}
 use Rattle.house.specs.declared.Contact.{Contact}
 use Rattle.house.specs.declared.Record.{Record}
 use Rattle.house.specs.declared.Record.the-variants as Record
-use Rattle.house.proofs.Front.{record-head, record-contact}
+use Rattle.house.proofs.Front.{record-head, record-contact, record-alone}
 use Rattle.house.proofs.Records.{records-one}
-use Rattle.house.proofs.WellFormed.{never}
+use Rattle.well_formed.specs.WellFormed.{all, wellFormed}
+use Rattle.well_formed.proofs.WellFormed.{never}
+use Rattle.well_formed.proofs.Front.{well-alone}
 use Rattle.framing.specs.Whole.{Formed, Framed, ends, head, contact, cancel, dismissal}
 use Rattle.machine.specs.Conforms.{placeIn}
 use Rattle.machine.specs.Table.{contacts}
@@ -33,7 +34,6 @@ use Rattle.presses.specs.Choosing.{recordsIn, allWell, mayStand, dueAfter, inFr
 use Rattle.presses.specs.declared.Label.{Label}
 use Rattle.presses.specs.declared.Hit.{Hit}
 use Rattle.boats.proofs.Ids.{Small}
-use Rattle.boats.proofs.Parts.{record-alone, well-alone}
 
 -- ---- whole frames
 

@@ -8,7 +8,7 @@ use mathlib.Core.Logic.{_⊎_, inl, inr}
 use native.Mathlib.Omega.{arith}
 use borrow.Author.Tests.{eqb-true, eq-eqb, ne-eqb}
 use lib.Dec.{eqb, eqb·suc-zero}
-use Rattle.house.proofs.WellFormed.{never}
+use Rattle.well_formed.proofs.WellFormed.{never}
 use Rattle.stream.specs.Asked.{All}
 use Rattle.presses.specs.Choosing.{press, move, isLift, pressedAfter, isChoice}
 use Rattle.presses.specs.declared.Hit.{Hit}

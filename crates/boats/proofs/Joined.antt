@@ -13,7 +13,8 @@ use Rattle.digits.specs.Digits.{Bytes}
 use Rattle.states.specs.Table.{out}
 use Rattle.house.specs.Layout.{recordOf}
 use Rattle.house.specs.declared.Record.{Record}
-use Rattle.house.proofs.WellFormed.{all-none, all-join}
+use Rattle.house.proofs.Front.{record-alone}
+use Rattle.well_formed.proofs.WellFormed.{all-none, all-join}
 use Rattle.framing.specs.Whole.{FramesWhole, ends}
 use Rattle.framing.proofs.Whole.{framed-then}
 use Rattle.machine.specs.Table.{Table, contacts, stateAt, placeAt, origin, resting}
@@ -33,7 +34,7 @@ use Rattle.demands.proofs.Demands.{demand-3, whole-frames}
 use Rattle.boats.specs.Calls.{LabelCall, LabelCalls, lastLabel}
 use Rattle.boats.specs.Joined.{heard, Fed, NeverAstray}
 use Rattle.boats.proofs.Ids.{all-small}
-use Rattle.boats.proofs.Parts.{record-alone, records-append}
+use Rattle.boats.proofs.Parts.{records-append}
 use Rattle.boats.proofs.Taking.{takes, leaves, refuses}
 use Rattle.boats.proofs.Following.{Sorted, sorted, path-on, Followed, followed}
 

@@ -5,35 +5,20 @@ use mathlib.Core.Path.{_≡_, refl, sym, ap, _∙_}
 use mathlib.Core.Bool.{Bool, true, false, cond}
 use mathlib.Core.List.{List, [], _∷_, _++_, append-assoc}
 use native.Mathlib.Omega.{arith}
-use borrow.Author.Tests.{eqb-true, le-leb}
+use borrow.Author.Tests.{eqb-true}
 use lib.ListN.{length, drop, length-append, length-drop}
-use lib.Seq.{take-append-le, drop-append-le}
+use lib.Seq.{drop-append-le}
 use Rattle.house.specs.Fields.{recordBytes}
-use Rattle.house.specs.Layout.{recordOf}
-use Rattle.house.specs.WellFormed.{wellFormed}
 use Rattle.house.specs.Records as house
 use Rattle.house.specs.declared.Point.{Point}
 use Rattle.house.specs.declared.Record.{Record}
 use Rattle.house.proofs.Records.{records-step}
-use Rattle.house.proofs.WellFormed.{never}
+use Rattle.well_formed.proofs.WellFormed.{never}
 use Rattle.presses.specs.Choosing.{Choice, mayStand, dueAfter, inFrames, isLegal, statesAfter, byTable, keptOf, chosenIn, recordKept, recordChosen, pointOf, numbersOf}
 use Rattle.presses.specs.declared.Hit.{Hit}
 use Rattle.presses.specs.declared.Label.{Label}
 
 -- ---- bytes in whole records
-
--- a record is its own bytes'
-pub record-alone : (s t : List ℕ) → recordBytes ≤ length s → recordOf (s ++ t) ≡ recordOf s
-unfolding recordOf
-record-alone s t h =
-    let k : recordBytes ≤ length (s ++ t) = rw length-append (omega (arith, h)) in
-    rw (take-append-le recordBytes s t h, le-leb _ _ k, le-leb _ _ h)
-
-pub well-alone : (s t : List ℕ) → recordBytes ≤ length s → wellFormed (s ++ t) ≡ wellFormed s
-unfolding wellFormed
-well-alone s t h =
-    let k : recordBytes ≤ length (s ++ t) = rw length-append (omega (arith, h)) in
-    rw (take-append-le recordBytes s t h, le-leb _ _ k, le-leb _ _ h)
 
 module _ {R : Type 0} (read : List ℕ → R) (alone : (s t : List ℕ) → recordBytes ≤ length s → read (s ++ t) ≡ read s) (back : List ℕ) where
   records-on : (front : List ℕ) → recordBytes ≤ length front → house.recordsIn read (drop recordBytes front ++ back) ≡ house.recordsIn read (drop recordBytes front) ++ house.recordsIn read back

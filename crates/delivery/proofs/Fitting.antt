@@ -6,7 +6,7 @@ use mathlib.Core.List.{List, [], _∷_}
 use lib.ListN.{length}
 use Rattle.formats.specs.Format.{Each}
 use Rattle.house.specs.declared.Contact.{Contact}
-use Rattle.house.proofs.WellFormed.{in-range}
+use Rattle.well_formed.proofs.WellFormed.{in-range}
 use Rattle.framing.specs.Frame.{Frame}
 use Rattle.touch.proofs.Ranges.{ContactRead}
 use Rattle.recordings.specs.Records.{contactRecord, frameRecords}

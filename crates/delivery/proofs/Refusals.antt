@@ -6,7 +6,7 @@ use mathlib.Core.Bool.{false}
 use mathlib.Core.List.{List}
 use Rattle.paper.specs.Refusals.{none}
 use Rattle.slices.specs.Writing.{Draft, bytes, refuse}
-use Rattle.house.proofs.WellFormed.{never}
+use Rattle.well_formed.proofs.WellFormed.{never}
 use Rattle.messages.specs.Header.{oneOf}
 use Rattle.panels.specs.Panel.{readySending, touchSending, dismissSending}
 use Rattle.panels.specs.declared.Panel.{Panel}

@@ -17,9 +17,9 @@ use Rattle.formats.specs.Format.{Got, got, bad}
 use Rattle.formats.proofs.Refusing.{Tame}
 use Rattle.integers.specs.Integer.{limit, draft}
 use Rattle.integers.specs.Answer.{minus}
-use Rattle.house.specs.WellFormed.{all}
 use Rattle.house.specs.declared.Contact.{Contact}
-use Rattle.house.proofs.WellFormed.{all-split}
+use Rattle.well_formed.specs.WellFormed.{all}
+use Rattle.well_formed.proofs.WellFormed.{all-split}
 use Rattle.messages.specs.Header.{oneOf, mostBytes}
 use Rattle.messages.specs.Bodies.{versionListed, flagsListed, serverReadyDraft, clientReadyDraft, suspendDraft, resumeDraft, dismissDraft}
 use Rattle.messages.specs.declared.Ready.{Ready}

@@ -16,13 +16,14 @@ use Rattle.states.specs.Table.{hovering, engaged, listed, placeOf}
 use Rattle.fields.specs.Integers.{taken}
 use Rattle.house.specs.Fields.{recordBytes}
 use Rattle.house.specs.Layout.{touched, cancelled, dismissed, recordOf}
-use Rattle.house.specs.WellFormed.{orientationMost, pressureMost, all, sidesWell, atMost, contactWell, kindWell, wellFormed}
 use Rattle.house.specs.Fits.{noSides}
 use Rattle.house.specs.declared.Contact.{Contact}
 use Rattle.house.specs.declared.Point.{Point}
 use Rattle.house.specs.declared.Record.{Record}
-use Rattle.house.proofs.Front.{Front, front, record-head, record-contact, well-short}
-use Rattle.house.proofs.WellFormed.{never, all-join}
+use Rattle.house.proofs.Front.{Front, front, record-head, record-contact}
+use Rattle.well_formed.specs.WellFormed.{orientationMost, pressureMost, all, sidesWell, atMost, contactWell, kindWell, wellFormed}
+use Rattle.well_formed.proofs.Front.{well-short}
+use Rattle.well_formed.proofs.WellFormed.{never, all-join}
 use Rattle.messages.specs.Header.{headerBytes}
 use Rattle.messages.specs.Header as event
 use Rattle.messages.specs.declared.Ready.{Ready}

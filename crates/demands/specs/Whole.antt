@@ -7,7 +7,7 @@ use lib.ListN.{length, drop}
 use Rattle.paper.specs.Refusals.{none}
 use Rattle.digits.specs.Digits.{Bytes}
 use Rattle.house.specs.Fields.{recordBytes}
-use Rattle.house.specs.WellFormed.{wellFormed}
+use Rattle.well_formed.specs.WellFormed.{wellFormed}
 use Rattle.framing.specs.Whole.{FramesWhole}
 use Rattle.reading.specs.Plain.{ReadsBy}
 use Rattle.reading.specs.declared.PlainAnswer.{PlainAnswer}
@@ -23,7 +23,7 @@ pub record WritesWholeFrames : Type 0 where
       → FramesWhole (recordsRead a out)
   -- each call of the receiver, after any history of calls
   pub receiver : (h : List Call) → History h → (c : Call) → Calls (last fresh h) (c ∷ []) → Bytes (c .message) → FramesWhole (recordsLeft c)
-  -- each record of whole frames is one that house::is_well_formed takes, and kangirlo_read_record refuses none of them by 14
+  -- each record of whole frames is one that well_formed::is_well_formed takes, and kangirlo_read_record refuses none of them by 14
   pub formed : (l : List ℕ) (i : ℕ) → FramesWhole l → recordBytes * i < length l → wellFormed (drop (recordBytes * i) l) ≡ true
   pub readable : (l : List ℕ) (i : ℕ) (r : FlatRecord) → FramesWhole l → recordBytes * i < length l → r ≡ flat (drop (recordBytes * i) l)
       → r .refusal ≡ none

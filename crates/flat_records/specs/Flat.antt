@@ -6,11 +6,11 @@ use lib.IntN.{pos}
 use Rattle.paper.specs.Refusals.{none, badRecord}
 use Rattle.paper.specs.declared.Microseconds.{Microseconds}
 use Rattle.house.specs.Layout.{head, recordOf}
-use Rattle.house.specs.WellFormed.{wellFormed}
 use Rattle.house.specs.declared.Head.{Head}
 use Rattle.house.specs.declared.Contact.{Contact}
 use Rattle.house.specs.declared.Record.{Record}
 use Rattle.house.specs.declared.Record.the-variants as Record
+use Rattle.well_formed.specs.WellFormed.{wellFormed}
 use Rattle.flat_records.specs.declared.FlatRecord.{FlatRecord}
 
 -- with no contact in it: kind 0, which is a head's, and every field of a contact 0

@@ -100,7 +100,7 @@ fn flatten(read: Record) -> FlatRecord
 pub fn read_flat(records: &[u8]) -> FlatRecord
     ensures { λ r. ⌜ r ≡ flat (now (records .entry)) ⌝ }
 {
-    if house::is_well_formed(records) {
+    if well_formed::is_well_formed(records) {
         return flatten(house::read_record(records));
     }
     refused(paper::BAD_RECORD)

@@ -5,18 +5,18 @@ use mathlib.Core.Path.{_≡_, sym, ap, _∙_, subst}
 use mathlib.Core.Bool.{true}
 use mathlib.Core.List.{List, [], _++_, append-assoc, append-nil}
 use native.Mathlib.Omega.{arith}
-use lib.ListN.{length, take, drop, length-append}
+use lib.ListN.{length, drop, length-append}
 use lib.Seq.{drop-append-add}
-use borrow.Author.Tests.{le-leb}
 use Rattle.house.specs.Fields.{recordBytes}
 use Rattle.house.specs.Layout.{headIn, headBytes, contactBytes}
 use Rattle.house.specs.Layout as layout
-use Rattle.house.specs.WellFormed.{contactWell, kindWell, wellFormed}
 use Rattle.house.specs.Fits.{HeadFits, ContactFits}
 use Rattle.house.specs.declared.Head.{Head}
 use Rattle.house.specs.declared.Contact.{Contact}
-use Rattle.house.proofs.Front.{front-is, front-long}
-use Rattle.house.proofs.Round.{length-head, length-contact, kind-head, kind-contact, head-well, contact-well, head-back}
+use Rattle.house.proofs.Round.{length-head, length-contact, kind-head, kind-contact, head-back}
+use Rattle.well_formed.specs.WellFormed.{headWell, contactWell, kindWell, wellFormed}
+use Rattle.well_formed.proofs.Front.{well-alone}
+use Rattle.well_formed.proofs.Round.{head-well, contact-well}
 use Rattle.framing.specs.Whole.{Formed, Framed, ends, head, contact, cancel, dismissal}
 
 -- ---- one record
@@ -27,14 +27,6 @@ head-formed h f = record { long = length-head h; well = rw append-nil at (head-w
 pub contact-formed : (k : ℕ) (c : Contact) → 1 ≤ k → k < 4 → ContactFits c → contactWell c ≡ true → kindWell k c ≡ true → Formed k (contactBytes k c)
 contact-formed k c low high f w v =
     record { long = length-contact k c; well = rw append-nil at (contact-well k c [] low high f w v); kind = kind-contact k c high }
-
--- whatever follows it
-well-before : (s t : List ℕ) → length s ≡ recordBytes → wellFormed s ≡ true → wellFormed (s ++ t) ≡ true
-unfolding wellFormed
-well-before s t e w =
-    let a = front-is s t e in
-    let b : take 21 s ≡ s = rw append-nil at (front-is s [] e) in
-    rw (le-leb _ _ (front-long s t e), a) (rw (b, le-leb 21 (length s) (omega (arith, e))) at w)
 
 -- ---- records, one after the other
 
@@ -52,7 +44,7 @@ framed-then n a b (dismissal s t f h) k = rw (append-assoc s t b) (dismissal s (
 
 one-well : (k : ℕ) (s t : List ℕ) → Formed k s → ((i : ℕ) → recordBytes * i < length t → wellFormed (drop (recordBytes * i) t) ≡ true)
     → (i : ℕ) → recordBytes * i < length (s ++ t) → wellFormed (drop (recordBytes * i) (s ++ t)) ≡ true
-one-well k s t f h zero l = well-before s t (f .long) (f .well)
+one-well k s t f h zero l = well-alone s t (omega (arith, f .long)) ∙ f .well
 one-well k s t f h (suc i) l =
     let n : recordBytes * suc i ≡ length s + recordBytes * i = omega (arith, f .long) in
     ap (λ (m : ℕ). wellFormed (drop m (s ++ t))) n ∙ ap wellFormed (drop-append-add s t (recordBytes * i)) ∙ h i (omega (arith, l, length-append s t, f .long))

@@ -8,7 +8,7 @@ use lib.ListN.{length}
 use Rattle.house.specs.Fields.{recordBytes}
 use Rattle.house.specs.Layout.{kindOf, headIn, touched, cancelled, dismissed}
 use Rattle.house.specs.Layout as layout
-use Rattle.house.specs.WellFormed.{wellFormed}
+use Rattle.well_formed.specs.WellFormed.{wellFormed}
 
 -- one well-formed record of a kind
 pub record Formed (k : ℕ) (s : List ℕ) : Type 0 where

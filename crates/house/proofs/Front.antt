@@ -1,19 +1,18 @@
 -- What stands at the front of a slice of records: too few bytes, a head or a contact.
 -- Assumes nothing.
-use mathlib.Core.Path.{_≡_, refl}
+use mathlib.Core.Path.{_≡_, refl, sym, _∙_}
 use mathlib.Core.Bool.{Bool, true, false}
-use mathlib.Core.List.{List, [], _∷_, _++_}
+use mathlib.Core.List.{List, _++_}
 use Prim.Native.Nat.{ℕ, _≤_, _<_}
 use native.Mathlib.Omega.{arith}
 use lib.Dec.{leb, eqb}
 use lib.ListN.{length, take, length-append}
-use lib.Seq.{take-at}
-use borrow.Author.Tests.{leb-true, leb-false, eqb-true, eqb-false, le-leb, lt-leb, eq-eqb, ne-eqb}
-use Rattle.house.specs.Layout.{kindOf, headIn, contactOf, recordOf}
-use Rattle.house.specs.WellFormed.{all, headSpare, contactSpare, headWell, contactWell, kindWell, wellFormed}
+use lib.Seq.{take-at, take-append-le}
+use borrow.Author.Tests.{leb-true, leb-false, eqb-true, eqb-false, le-leb, eq-eqb, ne-eqb}
+use Rattle.house.specs.Fields.{recordBytes}
+use Rattle.house.specs.Layout.{kindOf, headIn, contactOf, headSpare, contactSpare, recordOf, spareZero}
 use Rattle.house.specs.declared.Record.{Record}
 use Rattle.house.specs.declared.Record.the-variants as Record
-use Rattle.house.proofs.WellFormed.{never}
 
 pub data Front : List ℕ → Type 0 where
   short : {l : List ℕ} → length l < 21 → Front l
@@ -38,29 +37,15 @@ pub record-contact : (l : List ℕ) → 21 ≤ length l → (kindOf (take 21 l) 
 unfolding recordOf
 record-contact l h k = rw (le-leb _ _ h, ne-eqb _ 0 k)
 
--- ---- whether it is well formed
+-- ---- whether its unused bits are 0
 
-pub well-short : (l : List ℕ) → length l < 21 → wellFormed l ≡ false
-unfolding wellFormed
-well-short l h = rw (lt-leb _ _ h)
+pub spare-head : (l : List ℕ) → 21 ≤ length l → kindOf (take 21 l) ≡ 0 → spareZero l ≡ eqb (headSpare (take 21 l)) 0
+unfolding spareZero
+spare-head l h k = rw (le-leb _ _ h, eq-eqb _ 0 k)
 
-pub well-head : (l : List ℕ) → 21 ≤ length l → kindOf (take 21 l) ≡ 0 → let s = take 21 l in wellFormed l ≡ all (eqb (headSpare s) 0 ∷ headWell (headIn s) ∷ [])
-unfolding wellFormed
-well-head l h k = rw (le-leb _ _ h, eq-eqb _ 0 k)
-
-pub well-contact : (l : List ℕ) → 21 ≤ length l → (kindOf (take 21 l) ≡ 0 → ⊥)
-    → let s = take 21 l in wellFormed l ≡ all (eqb (contactSpare s) 0 ∷ contactWell (contactOf s) ∷ kindWell (kindOf s) (contactOf s) ∷ [])
-unfolding wellFormed
-well-contact l h k = rw (le-leb _ _ h, ne-eqb _ 0 k)
-
-well-long-by : (l : List ℕ) → Front l → wellFormed l ≡ true → 21 ≤ length l
-well-long-by l (Front.short h) w = never w (well-short l h)
-well-long-by l (Front.head h k) w = h
-well-long-by l (Front.contact h k) w = h
-
--- a well-formed record is whole
-pub well-long : (l : List ℕ) → wellFormed l ≡ true → 21 ≤ length l
-well-long l w = well-long-by l (front l) w
+pub spare-contact : (l : List ℕ) → 21 ≤ length l → (kindOf (take 21 l) ≡ 0 → ⊥) → spareZero l ≡ eqb (contactSpare (take 21 l)) 0
+unfolding spareZero
+spare-contact l h k = rw (le-leb _ _ h, ne-eqb _ 0 k)
 
 -- ---- a whole record and whatever follows
 
@@ -69,3 +54,17 @@ front-is s t e = take-at s t 21 e
 
 pub front-long : (s t : List ℕ) → length s ≡ 21 → 21 ≤ length (s ++ t)
 front-long s t e = rw length-append (omega arith)
+
+-- whatever follows changes nothing
+same-front : (s t : List ℕ) → recordBytes ≤ length s → (take recordBytes (s ++ t) ≡ take recordBytes s) × (leb recordBytes (length (s ++ t)) ≡ leb recordBytes (length s))
+same-front s t h =
+    let k : recordBytes ≤ length (s ++ t) = rw length-append (omega (arith, h)) in
+    (take-append-le recordBytes s t h, le-leb _ _ k ∙ sym (le-leb _ _ h))
+
+pub record-alone : (s t : List ℕ) → recordBytes ≤ length s → recordOf (s ++ t) ≡ recordOf s
+unfolding recordOf
+record-alone s t h = let e = same-front s t h in rw (e .0, e .1)
+
+pub spare-alone : (s t : List ℕ) → recordBytes ≤ length s → spareZero (s ++ t) ≡ spareZero s
+unfolding spareZero
+spare-alone s t h = let e = same-front s t h in rw (e .0, e .1)

@@ -1,7 +1,6 @@
 pub mod Fields
 pub mod Twos
 pub mod Filling
-pub mod WellFormed
 pub mod Front
 pub mod Records
 pub mod Round

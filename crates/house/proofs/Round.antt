@@ -15,8 +15,7 @@ use Rattle.digits.specs.Digits.{joined, Bytes}
 use Rattle.digits.proofs.Laws.{bytes-take}
 use Rattle.house.specs.Fields.{field, packed, unpacked, valueAt}
 use Rattle.house.specs.Twos.{twosOf, ofTwos, Holds}
-use Rattle.house.specs.Layout.{head, headFields, headWidths, headBytes, headAs, headIn, contactFields, contactWidths, contactBytes, contactAs, contactOf, kindOf, recordOf, bytesOf}
-use Rattle.house.specs.WellFormed.{headSpare, contactSpare, headWell, contactWell, kindWell, wellFormed}
+use Rattle.house.specs.Layout.{head, headFields, headWidths, headBytes, headAs, headIn, contactFields, contactWidths, contactBytes, contactAs, contactOf, kindOf, headSpare, contactSpare, recordOf, spareZero, bytesOf}
 use Rattle.house.specs.Fits.{HeadFits, ContactFits}
 use Rattle.house.specs.declared.Head.{Head}
 use Rattle.house.specs.declared.Contact.{Contact}
@@ -24,8 +23,7 @@ use Rattle.house.specs.declared.Record.{Record}
 use Rattle.house.specs.declared.Record.the-variants as Record
 use Rattle.house.proofs.Fields.{Fit, field-fit, field-again, length-packed, unpacked-packed, packed-unpacked}
 use Rattle.house.proofs.Twos.{twos-lt, of-twos, twos-of, of-holds}
-use Rattle.house.proofs.WellFormed.{never, all-none, all-split, all-join}
-use Rattle.house.proofs.Front.{Front, short, front, record-head, record-contact, well-short, well-head, well-contact, front-is, front-long}
+use Rattle.house.proofs.Front.{Front, short, front, record-head, record-contact, spare-head, spare-contact, front-is, front-long}
 
 -- ---- 21 bytes
 
@@ -124,38 +122,24 @@ record-of-contact k c t h l f =
     let ec = ap contactOf e ∙ contact-back k c f in
     record-contact (contactBytes k c ++ t) (front-long (contactBytes k c) t (length-contact k c)) (not-head k c t h l) ∙ (λ i. Record.Contact (ek i) (ec i))
 
--- ---- WHAT IS PACKED IS WELL FORMED
+-- ---- THE UNUSED BITS OF WHAT IS PACKED ARE 0
 
-pub head-well : (h : Head) (t : List ℕ) → HeadFits h → wellFormed (headBytes h ++ t) ≡ true
-unfolding headWell
-head-well h t f =
+pub spare-of-head : (h : Head) (t : List ℕ) → spareZero (headBytes h ++ t) ≡ true
+spare-of-head h t =
     let e = front-is (headBytes h) t (length-head h) in
-    let ws = eq-eqb _ 0 (ap headSpare e ∙ head-spare h) in
-    let wh = ap headWell (ap headIn e ∙ head-back h f) ∙ le-leb _ _ (f .count) in
-    well-head (headBytes h ++ t) (front-long (headBytes h) t (length-head h)) (ap kindOf e ∙ kind-head h) ∙ all-join _ _ ws (all-join _ [] wh all-none)
+    spare-head (headBytes h ++ t) (front-long (headBytes h) t (length-head h)) (ap kindOf e ∙ kind-head h) ∙ eq-eqb _ 0 (ap headSpare e ∙ head-spare h)
 
-pub contact-well : (k : ℕ) (c : Contact) (t : List ℕ) → 1 ≤ k → k < 4 → ContactFits c → contactWell c ≡ true → kindWell k c ≡ true → wellFormed (contactBytes k c ++ t) ≡ true
-contact-well k c t h l f wc wk =
+pub spare-of-contact : (k : ℕ) (c : Contact) (t : List ℕ) → 1 ≤ k → k < 4 → spareZero (contactBytes k c ++ t) ≡ true
+spare-of-contact k c t h l =
     let e = front-is (contactBytes k c) t (length-contact k c) in
-    let ek = ap kindOf e ∙ kind-contact k c l in
-    let ec = ap contactOf e ∙ contact-back k c f in
-    let ws = eq-eqb _ 0 (ap contactSpare e ∙ contact-spare k c) in
-    let wc' = ap contactWell ec ∙ wc in
-    let wk' = (λ i. kindWell (ek i) (ec i)) ∙ wk in
-    well-contact (contactBytes k c ++ t) (front-long (contactBytes k c) t (length-contact k c)) (not-head k c t h l)
-    ∙ all-join _ _ ws (all-join _ _ wc' (all-join _ [] wk' all-none))
+    spare-contact (contactBytes k c ++ t) (front-long (contactBytes k c) t (length-contact k c)) (not-head k c t h l)
+    ∙ eq-eqb _ 0 (ap contactSpare e ∙ contact-spare k c)
 
 -- ---- WHATEVER IS READ FITS ITS FIELDS
 
-head-fits-by : (l : List ℕ) → kindOf (take 21 l) ≡ head → Front l → wellFormed l ≡ true → HeadFits (headIn (take 21 l))
-unfolding headIn unpacked headWell
-head-fits-by l e (short h) w = never w (well-short l h)
-head-fits-by l e (Front.contact h k) w = absurd (k e)
-head-fits-by l e (Front.head h k) w =
-    record { count = leb-true _ _ (all-split _ [] (all-split _ _ (sym (well-head l h k) ∙ w) .1) .0); offset = field-fit 61 _ }
-
-pub head-fits : (l : List ℕ) → wellFormed l ≡ true → kindOf (take 21 l) ≡ head → HeadFits (headIn (take 21 l))
-head-fits l w k = head-fits-by l k (front l) w
+pub offset-fits : (s : List ℕ) → headIn s .offset .0 < 2 ^ 61
+unfolding headIn unpacked
+offset-fits s = field-fit 61 _
 
 signed-fits : (w q : ℕ) → Holds w (ofTwos w (q % 2 ^ w))
 signed-fits w q = of-holds w (q % 2 ^ w) (field-fit w q)
@@ -191,7 +175,7 @@ low-again q r = ap (λ (v : ℕ). record { width = 6; value = v }) (mul-add-mod-
 high-again : (q r : ℕ) → field 3 ((q % 2 ^ 3 * 2 ^ 6 + r % 2 ^ 6) / 2 ^ 6) ≡ field 3 q
 high-again q r = ap (field 3) (high (q % 2 ^ 3) 6 (field-fit 6 r)) ∙ field-again 3 q
 
-pub head-again : (s : List ℕ) → Bytes s → length s ≡ 21 → kindOf s ≡ head → headSpare s ≡ 0 → headBytes (headIn s) ≡ s
+head-again : (s : List ℕ) → Bytes s → length s ≡ 21 → kindOf s ≡ head → headSpare s ≡ 0 → headBytes (headIn s) ≡ s
 unfolding headBytes headIn headSpare kindOf unpacked
 head-again s h l k z =
     let n = joined 0 s in
@@ -200,7 +184,7 @@ head-again s h l k z =
     ∷ record { width = 96; value = sym z i } ∷ [] in
     ap packed e ∙ packed-unpacked headWidths s h l refl
 
-pub contact-again : (s : List ℕ) → Bytes s → length s ≡ 21 → contactSpare s ≡ 0 → contactBytes (kindOf s) (contactOf s) ≡ s
+contact-again : (s : List ℕ) → Bytes s → length s ≡ 21 → contactSpare s ≡ 0 → contactBytes (kindOf s) (contactOf s) ≡ s
 unfolding contactBytes contactOf contactSpare kindOf unpacked
 contact-again s h l z =
     let n = joined 0 s in
@@ -211,15 +195,15 @@ contact-again s h l z =
     ∷ field-again 9 (n / 2 ^ 20) i ∷ field-again 16 (n / 2 ^ 4) i ∷ record { width = 4; value = sym z i } ∷ [] in
     ap packed e ∙ packed-unpacked contactWidths s h l refl
 
-again : (l : List ℕ) → Front l → wellFormed l ≡ true → Bytes l → bytesOf (recordOf l) ≡ take 21 l
+again-by : (l : List ℕ) → Front l → 21 ≤ length l → spareZero l ≡ true → Bytes l → bytesOf (recordOf l) ≡ take 21 l
 unfolding bytesOf
-again l (short h) w b = never w (well-short l h)
-again l (Front.head h k) w b =
-    let z = eqb-true _ 0 (all-split _ _ (sym (well-head l h k) ∙ w) .0) in
+again-by l (short h) g w b = absurd (omega arith)
+again-by l (Front.head h k) g w b =
+    let z = eqb-true _ 0 (sym (spare-head l h k) ∙ w) in
     ap bytesOf (record-head l h k) ∙ head-again (take 21 l) (bytes-take 21 l b) (length-take-le 21 l h) k z
-again l (Front.contact h k) w b =
-    let z = eqb-true _ 0 (all-split _ _ (sym (well-contact l h k) ∙ w) .0) in
+again-by l (Front.contact h k) g w b =
+    let z = eqb-true _ 0 (sym (spare-contact l h k) ∙ w) in
     ap bytesOf (record-contact l h k) ∙ contact-again (take 21 l) (bytes-take 21 l b) (length-take-le 21 l h) z
 
-pub bytes-of-record : (l : List ℕ) → wellFormed l ≡ true → Bytes l → bytesOf (recordOf l) ≡ take 21 l
-bytes-of-record l w b = again l (front l) w b
+pub again : (l : List ℕ) → 21 ≤ length l → spareZero l ≡ true → Bytes l → bytesOf (recordOf l) ≡ take 21 l
+again l g w b = again-by l (front l) g w b

@@ -1,4 +1,4 @@
--- The laws of two's complement, once over the width, and of a signed number's sign and magnitude.
+-- The laws of two's complement, once over the width, and of the machine's signed numbers.
 -- Assumes nothing.
 use mathlib.Core.Path.{_≡_, refl}
 use mathlib.Core.Bool.{Bool, true, false, cond}
@@ -6,7 +6,6 @@ use Prim.Native.Nat.{ℕ, zero, suc, _+_, _*_, _-_, _/_, _%_, _^_, _<_, _≤_}
 use native.Mathlib.Nat.{pow-succ', zero-add, suc-mul, add-mul, mod-lt, mod-eq-of-lt, mul-add-mod-self-right}
 use native.Mathlib.Omega.{arith}
 use lib.IntN.{ℤ, pos, negsuc, _+ℤ_, _-ℤ_}
-use lib.Signed.{mag, ltZ}
 use lib.Dec.{T, ltb, leb}
 use lib.Pow.{pow-pos, pow-add, split, shr-lt}
 use borrow.Author.Tests.{lt-ltb, le-ltb, ltb-true, ltb-false}
@@ -45,31 +44,11 @@ module _ (w v : ℕ) (h : v < 2 ^ w) where
   pub of-holds : Holds w (ofTwos w v)
   of-holds = by (ltb (2 * v) (2 ^ w)) refl .1
 
--- ---- the machine's signed numbers: -1 - z turns n into -(n + 1) and back
-
-pub flip : (n : ℕ) → negsuc 0 -ℤ negsuc n ≡ pos n
-flip n =
-    let l : 1 ≤ suc n = omega arith in
-    let e : suc n - 1 ≡ n = omega arith in
-    rw (le-ltb (suc n) 1 l, e)
+-- ---- the machine's signed numbers: -1 - z turns n into -(n + 1)
 
 pub flop : (n : ℕ) → negsuc 0 -ℤ pos n ≡ negsuc n
 flop zero = refl
 flop (suc n) = rw zero-add
-
--- the test of z < 0
-pub negative : (z : ℤ) → SFits w32 z → ltZ (toZ w32 (ofZ w32 z)) (pos 0) ≡ true → z ≡ negsuc (mag z)
-negative (pos n) f t =
-    let u : ltZ (pos n) (pos 0) ≡ true = rw (toZ-ofZ w32 (pos n) f) at t in
-    absurd (omega (arith, ltb-true n 0 u))
-negative (negsuc n) f t = refl
-
-pub positive : (z : ℤ) → SFits w32 z → ltZ (toZ w32 (ofZ w32 z)) (pos 0) ≡ false → z ≡ pos (mag z)
-positive (pos n) f t = refl
-positive (negsuc n) f t =
-    let u : true ≡ false = rw (toZ-ofZ w32 (negsuc n) f) at t in
-    let v : _≡_ {A = ℕ} 0 1 = cc in
-    absurd (omega (arith, v))
 
 -- ---- a number in more bits
 

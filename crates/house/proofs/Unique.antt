@@ -7,8 +7,7 @@ use mathlib.Core.List.{List}
 use Rattle.slices.specs.Writing.{bytes, Writes}
 use Rattle.slices.specs.declared.Written.{Written}
 use Rattle.slices.proofs.Laws.{writes-unique}
-use Rattle.house.specs.Layout.{headBytes, contactBytes, recordOf}
-use Rattle.house.specs.WellFormed.{has, wellFormed}
+use Rattle.house.specs.Layout.{headBytes, contactBytes, recordOf, spareZero}
 use Rattle.house.specs.declared.Head.{Head}
 use Rattle.house.specs.declared.Contact.{Contact}
 use Rattle.house.specs.declared.Record.{Record}
@@ -24,8 +23,5 @@ write-contact-unique kind c = writes-unique (bytes (contactBytes kind c))
 pub read-record-unique : (l : List ℕ) (a b : Record) → a ≡ recordOf l → b ≡ recordOf l → a ≡ b
 read-record-unique l a b e f = e ∙ sym f
 
-pub is-well-formed-unique : (l : List ℕ) (a b : Bool) → a ≡ wellFormed l → b ≡ wellFormed l → a ≡ b
-is-well-formed-unique l a b e f = e ∙ sym f
-
-pub has-field-unique : (present bit : ℕ) (a b : Bool) → a ≡ has bit present → b ≡ has bit present → a ≡ b
-has-field-unique present bit a b e f = e ∙ sym f
+pub is-spare-zero-unique : (l : List ℕ) (a b : Bool) → a ≡ spareZero l → b ≡ spareZero l → a ≡ b
+is-spare-zero-unique l a b e f = e ∙ sym f

@@ -1,12 +1,8 @@
--- What the fields of a record hold, and what a message holds: the ranges of a head's and of a contact's values.
+-- What the fields of a record hold: the ranges of a head's and of a contact's values.
 use Prim.Native.Nat.{_^_, _<_, _≤_}
-use mathlib.Core.Path.{_≡_}
-use mathlib.Core.Bool.{true, false}
-use lib.IntN.{pos, natAbs}
-use Rattle.states.specs.Table.{listed}
+use lib.IntN.{pos}
 use Rattle.house.specs.Twos.{Holds}
 use Rattle.house.specs.Layout.{contactsMost}
-use Rattle.house.specs.WellFormed.{has, placeMost, sideMost, orientationMost, pressureMost}
 use Rattle.house.specs.declared.Head.{Head}
 use Rattle.house.specs.declared.Contact.{Contact}
 use Rattle.house.specs.declared.Sides.{Sides}
@@ -31,18 +27,3 @@ pub record ContactFits (c : Contact) : Type 0 where
 
 abbrev pub noSides : Sides
 noSides = record { left = pos 0; top = pos 0; right = pos 0; bottom = pos 0 }
-
--- every value is one that a message can carry, and what is absent is 0
-pub record InRange (c : Contact) : Type 0 where
-  pub flags : listed (c .flags) ≡ true
-  pub x : natAbs (c .place .x) ≤ placeMost
-  pub y : natAbs (c .place .y) ≤ placeMost
-  pub left : natAbs (c .sides .left) ≤ sideMost
-  pub top : natAbs (c .sides .top) ≤ sideMost
-  pub right : natAbs (c .sides .right) ≤ sideMost
-  pub bottom : natAbs (c .sides .bottom) ≤ sideMost
-  pub orientation : c .orientation ≤ orientationMost
-  pub pressure : c .pressure ≤ pressureMost
-  pub absentSides : has 1 (c .present) ≡ false → c .sides ≡ noSides
-  pub absentOrientation : has 2 (c .present) ≡ false → c .orientation ≡ 0
-  pub absentPressure : has 4 (c .present) ≡ false → c .pressure ≡ 0

@@ -1,6 +1,6 @@
 -- Document 01, "House records": the layouts of heads and contacts, and what stands at the front of a slice of records.
 use Prim.Native.Nat.{ℕ, _+_, _*_, _/_, _^_}
-use mathlib.Core.Bool.{cond}
+use mathlib.Core.Bool.{Bool, false, cond}
 use mathlib.Core.List.{List, [], _∷_}
 use lib.IntN.{ℤ}
 use lib.ListN.{length, take}
@@ -98,6 +98,13 @@ headIn s = headAs (unpacked headWidths s)
 unfoldable pub contactOf : List ℕ → Contact
 contactOf s = contactAs (unpacked contactWidths s)
 
+-- the unused bits, those behind every value
+unfoldable pub headSpare : List ℕ → ℕ
+headSpare s = valueAt 4 (unpacked headWidths s)
+
+unfoldable pub contactSpare : List ℕ → ℕ
+contactSpare s = valueAt 12 (unpacked contactWidths s)
+
 -- the record at the front of a slice of records; 14 where it is not whole
 unfoldable pub recordOf : List ℕ → Record
 recordOf l =
@@ -106,7 +113,13 @@ recordOf l =
     (cond (eqb (kindOf s) head) (Record.Head (headIn s)) (Record.Contact (kindOf s) (contactOf s)))
     (Record.Refused badRecord)
 
--- and back
+-- its unused bits are 0; false where it is not whole
+unfoldable pub spareZero : List ℕ → Bool
+spareZero l =
+    let s : List ℕ = take recordBytes l in
+    cond (leb recordBytes (length l)) (eqb (cond (eqb (kindOf s) head) (headSpare s) (contactSpare s)) 0) false
+
+-- a record's bytes
 unfoldable pub bytesOf : Record → List ℕ
 bytesOf (Record.Head h) = headBytes h
 bytesOf (Record.Contact kind c) = contactBytes kind c

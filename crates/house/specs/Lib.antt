@@ -2,7 +2,6 @@
 pub mod Fields
 pub mod Twos
 pub mod Layout
-pub mod WellFormed
 pub mod Fits
 pub mod Parts
 pub mod Records

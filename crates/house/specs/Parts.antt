@@ -1,12 +1,9 @@
--- The parts of a contact: of its layout, of what is read, and of the rule for a well-formed one.
+-- The parts of a contact: of its layout, and of what is read.
 use Prim.Native.Nat.{ℕ}
-use mathlib.Core.Bool.{Bool, cond}
 use mathlib.Core.List.{List, [], _∷_}
-use lib.IntN.{ℤ}
 use Rattle.house.specs.Fields.{Field, field, valueAt}
 use Rattle.house.specs.Twos.{ofTwos}
 use Rattle.house.specs.Layout.{signed}
-use Rattle.house.specs.WellFormed.{all, placeWell, sideWell, zero?}
 use Rattle.house.specs.declared.Contact.{Contact}
 use Rattle.house.specs.declared.Point.{Point}
 use Rattle.house.specs.declared.Sides.{Sides}
@@ -33,11 +30,3 @@ sidesAs fs = record {
   right = ofTwos 15 (valueAt 8 fs);
   bottom = ofTwos 15 (valueAt 9 fs);
 }
-
--- both coordinates are in range
-unfoldable pub pointWell : Point → Bool
-pointWell p = all (placeWell (p .x) ∷ placeWell (p .y) ∷ [])
-
--- a side that is there is in range, and one that is not is 0
-abbrev pub oneSideWell : Bool → ℤ → Bool
-oneSideWell there z = cond there (sideWell z) (zero? z)

@@ -5,16 +5,12 @@ ghost use mathlib.Core.Path.{_≡_};
 ghost use Rattle.paper.specs.Refusals.{none, noRoom};
 ghost use Rattle.slices.specs.Writing.{bytes, refuse, answered, Writes};
 ghost use Rattle.house.specs.Fields.{recordBytes};
-ghost use Rattle.house.specs.Layout.{headBytes, contactBytes, recordOf};
-ghost use Rattle.house.specs.WellFormed.{wellFormed};
+ghost use Rattle.house.specs.Layout.{headBytes, contactBytes, recordOf, spareZero};
 
 mod bits;
 mod fill;
 mod read;
 mod signs;
-mod well;
-
-pub use well::has_field;
 
 // How many bytes a record has.
 pub const RECORD_BYTES: usize = 21;
@@ -27,17 +23,6 @@ pub const TOUCHED: u8 = 1;
 pub const CANCELLED: u8 = 2;
 
 pub const DISMISSED: u8 = 3;
-
-// The limits of a message: of a frame's contacts, of a coordinate's and a side's magnitude, of an orientation and of a pressure.
-pub const CONTACTS_MOST: u16 = 256;
-
-pub const PLACE_MOST: u32 = 0x1FFFFFFF;
-
-pub const SIDE_MOST: u32 = 0x3FFF;
-
-pub const ORIENTATION_MOST: u16 = 359;
-
-pub const PRESSURE_MOST: u16 = 65000;
 
 // A frame's head: how many contacts follow, and the time since the frame before.
 pub struct Head {
@@ -132,9 +117,9 @@ pub fn read_record(records: &[u8]) -> Record
     Record::Contact(kind, read::read_contact(whole))
 }
 
-// Whether the record at the front of a slice of records is whole and well formed.
-pub fn is_well_formed(records: &[u8]) -> bool
-    ensures { λ r. ⌜ r ≡ wellFormed (now (records .entry)) ⌝ }
+// Whether the unused bits of the record at the front of a slice of records are 0; false where it is not whole.
+pub fn is_spare_zero(records: &[u8]) -> bool
+    ensures { λ r. ⌜ r ≡ spareZero (now (records .entry)) ⌝ }
 {
     if records.len() < RECORD_BYTES {
         return false;
@@ -142,13 +127,7 @@ pub fn is_well_formed(records: &[u8]) -> bool
     let whole = &records[..RECORD_BYTES];
     let kind = read::read_kind(whole);
     if kind == HEAD {
-        let unused_zero = well::is_head_spare_zero(whole);
-        let head = read::read_head(whole);
-        return unused_zero & well::is_head_well(head);
+        return read::is_head_spare_zero(whole);
     }
-    let spare_zero = well::is_contact_spare_zero(whole);
-    let contact = read::read_contact(whole);
-    let contact_well = well::is_contact_well(contact);
-    let kind_well = well::is_kind_well(kind, contact);
-    spare_zero & contact_well & kind_well
+    read::is_contact_spare_zero(whole)
 }

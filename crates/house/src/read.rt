@@ -9,9 +9,10 @@ use paper::Microseconds;
 ghost use mathlib.Core.Path.{_≡_};
 ghost use Prim.Native.Nat.{_+_, _-_, _/_, _%_, _^_};
 ghost use lib.ListN.{length};
+ghost use lib.Dec.{eqb};
 ghost use Rattle.digits.specs.Digits.{joined};
 ghost use Rattle.house.specs.Fields.{unpacked};
-ghost use Rattle.house.specs.Layout.{contactWidths, kindOf, headIn, contactOf};
+ghost use Rattle.house.specs.Layout.{contactWidths, kindOf, headIn, contactOf, headSpare, contactSpare};
 ghost use Rattle.house.specs.Twos.{ofTwos, Holds};
 ghost use Rattle.house.specs.Filling.{Within};
 ghost use Rattle.house.specs.Parts.{pointAs, sidesAs};
@@ -88,4 +89,21 @@ pub(crate) fn read_contact(whole: &[u8]) -> Contact
         orientation: orientation,
         pressure: pressure,
     }
+}
+
+// Whether the 96 unused bits of a head are 0: more than a word, so in two parts.
+pub(crate) fn is_head_spare_zero(whole: &[u8]) -> bool
+    requires { ⌜ length (now whole) ≡ 21 ⌝ }
+    ensures { λ r. ⌜ r ≡ eqb (headSpare (now (whole .entry))) 0 ⌝ }
+{
+    let high = get(whole, 72, 56);
+    let low = get(whole, 128, 40);
+    if high == 0 { low == 0 } else { false }
+}
+
+pub(crate) fn is_contact_spare_zero(whole: &[u8]) -> bool
+    requires { ⌜ length (now whole) ≡ 21 ⌝ }
+    ensures { λ r. ⌜ r ≡ eqb (contactSpare (now (whole .entry))) 0 ⌝ }
+{
+    get(whole, 164, 4) == 0
 }

@@ -1,13 +1,11 @@
-// Signed numbers: the sign and the magnitude, and fields in two's complement.
+// Signed fields, in two's complement.
 ghost use mathlib.Core.Path.{_≡_};
 ghost use Prim.Native.Nat.{_+_, _-_, _/_, _%_, _^_, _<_};
 ghost use mathlib.Core.List.{[], _∷_};
 ghost use lib.ListN.{length};
-ghost use lib.Signed.{mag};
 ghost use Rattle.digits.specs.Digits.{joined};
 ghost use Rattle.house.specs.Twos.{twosOf, ofTwos, Holds};
 ghost use Rattle.house.specs.Layout.{signed};
-ghost use Rattle.house.specs.WellFormed.{above, zero?};
 ghost use Rattle.house.specs.Filling.{Puts, Space, Within};
 
 fn pow2(k: usize) -> u64
@@ -15,26 +13,6 @@ fn pow2(k: usize) -> u64
     ensures { λ r. ⌜ r ≡ 2 ^ k ⌝ }
 {
     1 << k
-}
-
-// n both of n and of -(n + 1): unlike an absolute value it fits for every number.
-fn magnitude(x: i32) -> u32
-    ensures { λ r. ⌜ r ≡ mag x ⌝ }
-{
-    if x < 0 { (-1 - x) as u32 } else { x as u32 }
-}
-
-// Whether x is no less than -n.
-pub(crate) fn is_above(n: u32, x: i32) -> bool
-    ensures { λ r. ⌜ r ≡ above n x ⌝ }
-{
-    if x < 0 { magnitude(x) < n } else { true }
-}
-
-pub(crate) fn is_zero(x: i32) -> bool
-    ensures { λ r. ⌜ r ≡ zero? x ⌝ }
-{
-    if x < 0 { false } else { magnitude(x) == 0 }
 }
 
 // A whole turn of 32 bits: a multiple of every 2^width up to there, so that x + TURN is x modulo 2^width, and never below 0.

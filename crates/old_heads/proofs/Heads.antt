@@ -13,14 +13,15 @@ use borrow.Author.Tests.{le-leb, lt-leb, eq-eqb, ne-eqb, eqb-true}
 use Rattle.paper.specs.Refusals.{badRecord}
 use Rattle.digits.specs.Digits.{joined, digits}
 use Rattle.house.specs.Fields.{recordBytes, packed, unpacked, valueAt}
-use Rattle.house.specs.Layout.{contactsMost, headBytes, headIn, kindOf, recordOf}
-use Rattle.house.specs.WellFormed.{all, headSpare, headWell, wellFormed}
+use Rattle.house.specs.Layout.{contactsMost, headBytes, headIn, headSpare, kindOf, recordOf}
 use Rattle.house.specs.declared.Head.{Head}
 use Rattle.house.specs.declared.Record.{Record}
 use Rattle.house.specs.declared.Record.the-variants as Record
 use Rattle.house.proofs.Fields.{field-fit, length-packed, unpacked-packed, zeros}
-use Rattle.house.proofs.Front.{Front, short, front, record-head, record-contact, well-head, front-is, front-long}
+use Rattle.house.proofs.Front.{Front, short, front, record-head, record-contact, front-is, front-long}
 use Rattle.house.proofs.Round.{record-of-head}
+use Rattle.well_formed.specs.WellFormed.{all, headWell, wellFormed}
+use Rattle.well_formed.proofs.Front.{well-head}
 use Rattle.old_heads.specs.OldHeads.{oldContactsMost, oldHeadFields, oldHeadWidths, oldHeadBytes, oldHeadIn, oldHeadSpare, oldRecordOf, oldWellFormed, oldReading}
 use Rattle.old_heads.specs.Standing.{ReadsAsItDid, highBits, HeadsStand}
 

@@ -8,10 +8,10 @@ use lib.Dec.{eqb}
 use Rattle.paper.specs.Refusals.{badRecord}
 use Rattle.house.specs.Fields.{Field, field, recordBytes, packed, unpacked, valueAt}
 use Rattle.house.specs.Layout.{head, contactBytes, recordOf}
-use Rattle.house.specs.WellFormed.{wellFormed}
 use Rattle.house.specs.declared.Head.{Head}
 use Rattle.house.specs.declared.Record.{Record}
 use Rattle.house.specs.declared.Record.the-variants as Record
+use Rattle.well_formed.specs.WellFormed.{wellFormed}
 
 -- "63 contacts in a frame"
 abbrev pub oldContactsMost : ℕ

@@ -8,11 +8,11 @@ use lib.ListN.{take}
 use Rattle.paper.specs.Refusals.{badRecord}
 use Rattle.house.specs.Fields.{recordBytes, unpacked, valueAt}
 use Rattle.house.specs.Layout.{headWidths, headBytes, recordOf}
-use Rattle.house.specs.WellFormed.{wellFormed}
 use Rattle.house.specs.Fits.{HeadFits}
 use Rattle.house.specs.declared.Head.{Head}
 use Rattle.house.specs.declared.Record.{Record}
 use Rattle.house.specs.declared.Record.the-variants as Record
+use Rattle.well_formed.specs.WellFormed.{wellFormed}
 use Rattle.old_heads.specs.OldHeads.{oldContactsMost, oldHeadBytes, oldRecordOf, oldWellFormed, oldReading}
 
 -- ---- one record

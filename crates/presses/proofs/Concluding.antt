@@ -18,7 +18,7 @@ use Rattle.house.specs.declared.Point.{Point}
 use Rattle.house.specs.declared.Record.{Record}
 use Rattle.house.specs.declared.Record.the-variants as Record
 use Rattle.house.proofs.Records.{records-step, records-many}
-use Rattle.house.proofs.WellFormed.{never}
+use Rattle.well_formed.proofs.WellFormed.{never}
 use Rattle.presses.specs.declared.Label.{Label}
 use Rattle.presses.specs.declared.Hit.{Hit}
 use Rattle.presses.specs.declared.Tally.{Tally}

@@ -11,12 +11,12 @@ use Rattle.paper.specs.Refusals.{none, noRoom, badRecord}
 use Rattle.slices.specs.Writing.{laid}
 use Rattle.states.specs.Table.{out, illegal, next}
 use Rattle.house.specs.Layout.{touched, recordOf}
-use Rattle.house.specs.WellFormed.{all, wellFormed}
 use Rattle.house.specs.Records as house
 use Rattle.house.specs.declared.Point.{Point}
 use Rattle.house.specs.declared.Contact.{Contact}
 use Rattle.house.specs.declared.Record.{Record}
 use Rattle.house.specs.declared.Record.the-variants as Record
+use Rattle.well_formed.specs.WellFormed.{all, wellFormed}
 use Rattle.presses.specs.declared.Label.{Label}
 use Rattle.presses.specs.declared.Hit.{Hit}
 use Rattle.presses.specs.declared.Chosen.{Chosen}

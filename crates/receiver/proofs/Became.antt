@@ -16,7 +16,7 @@ use Rattle.messages.specs.Bodies.{ready}
 use Rattle.messages.specs.declared.Ready.{Ready}
 use Rattle.messages.proofs.Laws.{one-of-one, one-of-later, headed-got}
 use Rattle.house.specs.declared.Contact.{Contact}
-use Rattle.house.proofs.WellFormed.{never}
+use Rattle.well_formed.proofs.WellFormed.{never}
 use Rattle.framing.specs.Frame.{Frame}
 use Rattle.touch.specs.Touch.{Touch, body}
 use Rattle.stream.specs.Set.{Happening, dismissing}

@@ -15,7 +15,7 @@ use Rattle.messages.specs.declared.Ready.{Ready}
 use Rattle.formats.specs.Format.{got}
 use Rattle.fields.specs.Integers.{taken}
 use Rattle.house.specs.declared.Contact.{Contact}
-use Rattle.house.proofs.WellFormed.{never}
+use Rattle.well_formed.proofs.WellFormed.{never}
 use Rattle.framing.specs.Frame.{Frame, begunBy}
 use Rattle.touch.specs.Touch.{Touch, body}
 use Rattle.touch.proofs.Ranges.{ContactRead}

@@ -12,13 +12,13 @@ use Rattle.states.specs.Table.{table, placeOf, unlisted, from, out, hovering, e
 use Rattle.tables.proofs.Below.{below}
 use Rattle.states.proofs.Rule.{entries, rule, no-state, no-row}
 use Rattle.house.specs.Twos.{Holds}
-use Rattle.house.specs.WellFormed.{above, placeWell, contactWell}
 use Rattle.house.specs.Fits.{ContactFits}
 use Rattle.house.specs.Layout.{recordOf}
 use Rattle.house.specs.declared.Contact.{Contact}
 use Rattle.house.specs.declared.Point.{Point}
 use Rattle.house.proofs.Round.{length-contact, record-of-head, record-of-contact}
-use Rattle.house.proofs.WellFormed.{never, all-split}
+use Rattle.well_formed.specs.WellFormed.{above, placeWell, contactWell}
+use Rattle.well_formed.proofs.WellFormed.{never, all-split}
 use Rattle.touch.proofs.Ranges.{ContactRead}
 use Rattle.machine.specs.Table.{contacts, origin, active}
 use Rattle.machine.specs.Machine.{cancelFlags}

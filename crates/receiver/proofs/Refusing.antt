@@ -14,11 +14,11 @@ use Rattle.formats.proofs.Refusing.{Tame, Tamed, and-then, by-test, done-tame, 
 use Rattle.integers.specs.Integer.{Reading, value, refused, readingBy}
 use Rattle.integers.proofs.Laws.{Fault, cut, form, reading-refused}
 use Rattle.fields.specs.Integers.{Shape, gotBy, integer, unsigned, signed, takenBy, taken}
-use Rattle.house.specs.WellFormed.{has}
 use Rattle.house.specs.Fits.{noSides}
 use Rattle.messages.specs.Header.{headed, readMessage, clientReady, touch, headerBytes, mostBytes, eventOf, pduLength, oneOf}
 use Rattle.messages.specs.Bodies.{readyBy, ready, readyFlags, version}
 use Rattle.house.specs.declared.Contact.{Contact}
+use Rattle.well_formed.specs.WellFormed.{has}
 use Rattle.framing.specs.Frame.{Frame, headOf}
 use Rattle.house.specs.Layout.{contactsMost}
 use Rattle.touch.specs.Limits.{mostFrames}

@@ -15,11 +15,12 @@ use Rattle.formats.proofs.Laws.{never, more-got}
 use Rattle.formats.proofs.Refusing.{Tame, Tamed, and-then, by-test, done-tame, field-tame, series-tame}
 use Rattle.formats.proofs.Steps.{skipped-made}
 use Rattle.house.specs.Layout.{kindOf, headIn, contactOf, recordOf, head, touched}
-use Rattle.house.specs.WellFormed.{wellFormed}
 use Rattle.house.specs.declared.Head.{Head}
 use Rattle.house.specs.declared.Contact.{Contact}
-use Rattle.house.proofs.WellFormed as well
-use Rattle.house.proofs.Front.{Front, front, record-head, record-contact, well-short}
+use Rattle.house.proofs.Front.{Front, front, record-head, record-contact}
+use Rattle.well_formed.specs.WellFormed.{wellFormed}
+use Rattle.well_formed.proofs.WellFormed as well
+use Rattle.well_formed.proofs.Front.{well-short}
 use Rattle.framing.specs.Frame.{Frame, headOf}
 use Rattle.recordings.specs.Records.{stands, headRecord, contactRecord, frameRecords, readAll, framesIn}
 use Rattle.recordings.specs.Answer.{kindIn, contactsAfter, counted}

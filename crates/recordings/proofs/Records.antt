@@ -15,13 +15,15 @@ use Rattle.digits.proofs.Laws.{bytes-drop}
 use Rattle.formats.specs.Format.{Got, got, bad, andThen, Format, writeSeries, Each}
 use Rattle.formats.proofs.Laws.{Exact, exact-short, Law, never, done-law, field-law, times-law, each-length}
 use Rattle.house.specs.Layout.{headBytes, contactBytes, kindOf, headIn, contactOf, recordOf, bytesOf, head, touched}
-use Rattle.house.specs.WellFormed.{wellFormed, kindWell}
 use Rattle.house.specs.declared.Head.{Head}
 use Rattle.house.specs.declared.Contact.{Contact}
 use Rattle.house.specs.declared.Record.the-variants as Record
-use Rattle.house.proofs.WellFormed as well
-use Rattle.house.proofs.Front.{record-head, record-contact, well-long, well-contact, front-is}
-use Rattle.house.proofs.Round.{length-head, length-contact, kind-head, kind-contact, head-well, contact-well, head-back, contact-back, head-fits, contact-fits, bytes-of-record}
+use Rattle.house.proofs.Front.{record-head, record-contact, front-is}
+use Rattle.house.proofs.Round.{length-head, length-contact, kind-head, kind-contact, head-back, contact-back, head-fits, contact-fits}
+use Rattle.well_formed.specs.WellFormed.{wellFormed, kindWell}
+use Rattle.well_formed.proofs.WellFormed as well
+use Rattle.well_formed.proofs.Front.{well-long, well-contact}
+use Rattle.well_formed.proofs.Round.{head-well, contact-well, bytes-of-record}
 use Rattle.framing.specs.Frame.{Frame, headOf, contactsBytes, frameBytes, framesBytes}
 use Rattle.touch.specs.Touch.{touchRecord}
 use Rattle.recordings.specs.Records.{stands, headRecord, contactRecord, frameRecords, readAll, framesIn}

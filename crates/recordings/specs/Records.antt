@@ -10,10 +10,10 @@ use Rattle.paper.specs.Refusals.{badRecord}
 use Rattle.formats.specs.Format.{Got, got, bad, andThen, Format, done, field, times}
 use Rattle.house.specs.Fields.{recordBytes}
 use Rattle.house.specs.Layout.{headBytes, contactBytes, kindOf, headIn, contactOf, head, touched}
-use Rattle.house.specs.WellFormed.{wellFormed, contactWell}
 use Rattle.house.specs.Fits.{HeadFits, ContactFits}
 use Rattle.house.specs.declared.Head.{Head}
 use Rattle.house.specs.declared.Contact.{Contact}
+use Rattle.well_formed.specs.WellFormed.{wellFormed, contactWell}
 use Rattle.framing.specs.Frame.{Frame, headOf}
 
 -- a whole and well-formed record of a kind stands at the front

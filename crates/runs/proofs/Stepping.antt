@@ -14,8 +14,8 @@ use Rattle.formats.specs.Format.{Got, got, bad}
 use Rattle.fields.specs.Integers.{taken}
 use Rattle.house.specs.declared.Head.{Head}
 use Rattle.house.specs.declared.Contact.{Contact}
-use Rattle.house.proofs.WellFormed.{never}
 use Rattle.house.proofs.Round.{length-contact}
+use Rattle.well_formed.proofs.WellFormed.{never}
 use Rattle.framing.specs.Frame.{Frame, headOf}
 use Rattle.touch.specs.Touch.{contact}
 use Rattle.frame_records.proofs.Laws.{frame-is, length-frame}

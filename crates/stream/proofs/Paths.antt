@@ -18,7 +18,7 @@ use Rattle.house.specs.declared.Point.{Point}
 use Rattle.house.specs.declared.Head.{Head}
 use Rattle.house.proofs.Records.{records-one}
 use Rattle.house.proofs.Round.{length-head}
-use Rattle.house.proofs.WellFormed.{never}
+use Rattle.well_formed.proofs.WellFormed.{never}
 use Rattle.framing.specs.Frame.{Frame, headOf, timedFrames, contactsBytes, frameBytes}
 use Rattle.machine.specs.Table.{Table, contacts, stateAt, placeAt, withContact, origin, resting, active}
 use Rattle.tables.specs.Same.{sameNumber}

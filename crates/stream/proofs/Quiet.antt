@@ -7,7 +7,7 @@ use mathlib.Core.List.{List, [], _∷_, _++_, append-nil, append-assoc}
 use native.Mathlib.Omega.{arith}
 use lib.ListN.{length, length-append}
 use Rattle.states.specs.Table.{hovering}
-use Rattle.house.proofs.WellFormed.{never}
+use Rattle.well_formed.proofs.WellFormed.{never}
 use Rattle.framing.specs.Frame.{Frame, timedFrame, timedFrames}
 use Rattle.framing.proofs.Timed.{timed-contacts, timed-none, timed-cons, timed-append}
 use Rattle.machine.specs.Table.{Table, resting, stateAt}

@@ -22,9 +22,9 @@ use Rattle.house.proofs.Fields.{field-fit, length-packed, unpacked-packed}
 use Rattle.house.proofs.Twos.{twos-lt, of-twos}
 use Rattle.house.proofs.Round.{length-head, kind-head}
 use Rattle.house.proofs.Front.{front-is, front-long}
-use Rattle.house.proofs.WellFormed.{never}
 use Rattle.framing.specs.Frame.{Frame}
 use Rattle.house.specs.Records.{recordsIn}
+use Rattle.well_formed.proofs.WellFormed.{never}
 use Rattle.machine.specs.Table.{Table, contacts, stateAt, placeAt, origin, resting, active}
 use Rattle.machine.specs.Rules.{View}
 use Rattle.machine.specs.Held.{isHeld}

@@ -9,7 +9,7 @@ use borrow.Author.Tests.{eqb-true, eqb-false, not-true}
 use lib.Dec.{eqb}
 use lib.ListN.{length}
 use Rattle.house.specs.declared.Point.{Point}
-use Rattle.house.proofs.WellFormed.{never}
+use Rattle.well_formed.proofs.WellFormed.{never}
 use Rattle.framing.specs.Frame.{Frame}
 use Rattle.machine.specs.Table.{contacts, stateAt, active}
 use Rattle.machine.specs.Rules.{View}

@@ -14,7 +14,7 @@ use lib.Seq.{ext-getD}
 use Rattle.states.specs.Table.{out, hovering, illegal}
 use Rattle.house.specs.Layout.{touched}
 use Rattle.house.specs.declared.Point.{Point}
-use Rattle.house.proofs.WellFormed.{never}
+use Rattle.well_formed.proofs.WellFormed.{never}
 use Rattle.framing.specs.Frame.{Frame, frameBytes}
 use Rattle.machine.specs.Table.{Table, contacts, stateAt, placeAt, withContact, origin, resting, countActive}
 use Rattle.machine.specs.Rules.{View, Rules}

@@ -10,8 +10,8 @@ use lib.ListN.{length, drop}
 use Rattle.house.specs.Fields.{recordBytes}
 use Rattle.house.specs.Layout.{recordOf}
 use Rattle.house.specs.Records as house
-use Rattle.house.specs.WellFormed.{all, wellFormed}
 use Rattle.house.proofs.Records.{records-step}
+use Rattle.well_formed.specs.WellFormed.{all, wellFormed}
 use Rattle.presses.specs.Choosing.{mayStand, dueAfter, inFrames, isLegal, statesAfter, byTable, isTakenFrom}
 
 -- a contact of a frame stands where one is due

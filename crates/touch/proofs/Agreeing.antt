@@ -10,9 +10,9 @@ use Rattle.formats.specs.Format.{byte, writeSeries, Each}
 use Rattle.formats.proofs.Agreeing.{Agreeing, itself-agrees, done-agrees, field-agrees, such-agrees, when-agrees}
 use Rattle.fields.specs.Integers.{Integers, takenBy, strict, lenient, taken}
 use Rattle.fields.proofs.Agreeing.{IntegersAgreeing, strict-agrees}
-use Rattle.house.specs.WellFormed.{has}
 use Rattle.house.specs.Fits.{noSides}
 use Rattle.house.specs.declared.Contact.{Contact}
+use Rattle.well_formed.specs.WellFormed.{has}
 use Rattle.framing.specs.Frame.{Frame}
 use Rattle.framing.specs.Format.{bodyHeadOf, bodyFormat, bodyHeadFormat, frameFormat, frameHeadFormat}
 use Rattle.framing.proofs.Agreeing.{frame-agrees, body-agrees}

@@ -7,8 +7,8 @@ use mathlib.Core.Bool.{Bool, true}
 use Rattle.formats.proofs.Laws.{Law, done-law, field-law, such-law, when-law, byte-law}
 use Rattle.fields.specs.Integers.{Integers, takenBy}
 use Rattle.fields.proofs.Laws.{IntegersLaw, form-law}
-use Rattle.house.specs.WellFormed.{has}
 use Rattle.house.specs.Fits.{noSides}
+use Rattle.well_formed.specs.WellFormed.{has}
 use Rattle.framing.proofs.Laws.{body-law}
 use Rattle.touch.specs.Limits.{touchLimits}
 use Rattle.touch.specs.Touch.{optionalOf, present, point, flags, sides, orientation, pressure, optional, contact, touch}

@@ -4,8 +4,8 @@ use Prim.Native.Nat.{ℕ}
 use Rattle.formats.proofs.Least.{Takes, takes-done, takes-field, takes-such, takes-when, takes-byte}
 use Rattle.fields.specs.Integers.{Integers}
 use Rattle.fields.proofs.Least.{IntegersLeast}
-use Rattle.house.specs.WellFormed.{has}
 use Rattle.house.specs.Fits.{noSides}
+use Rattle.well_formed.specs.WellFormed.{has}
 use Rattle.touch.specs.Touch.{optionalOf, present, point, flags, sides, orientation, pressure, optional, contact}
 
 module _ (i : Integers) (h : IntegersLeast i) where

@@ -6,8 +6,8 @@ use mathlib.Core.Bool.{Bool}
 use Rattle.formats.proofs.Order.{Ordered, done-ordered, field-ordered, such-ordered, when-ordered, byte-ordered}
 use Rattle.fields.specs.Integers.{Integers, takenBy}
 use Rattle.fields.proofs.Order.{IntegersOrdered, form-ordered}
-use Rattle.house.specs.WellFormed.{has}
 use Rattle.house.specs.Fits.{noSides}
+use Rattle.well_formed.specs.WellFormed.{has}
 use Rattle.framing.proofs.Order.{body-ordered}
 use Rattle.touch.specs.Limits.{touchLimits}
 use Rattle.touch.specs.Touch.{optionalOf, present, point, flags, sides, orientation, pressure, optional, contact, touch}

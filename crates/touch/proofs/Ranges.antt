@@ -18,11 +18,12 @@ use Rattle.fields.specs.Integers.{Integers}
 use Rattle.fields.proofs.Laws.{IntegersLaw, IntegersRange}
 use Rattle.house.specs.Twos.{Holds}
 use Rattle.house.specs.Layout.{contactsMost}
-use Rattle.house.specs.Fits.{HeadFits, ContactFits, InRange, noSides}
-use Rattle.house.specs.WellFormed.{all, has, above, placeMost, sideMost, orientationMost, pressureMost, sidesWell, atMost, contactWell}
+use Rattle.house.specs.Fits.{HeadFits, ContactFits, noSides}
 use Rattle.house.specs.declared.Sides.{Sides}
 use Rattle.house.specs.declared.Contact.{Contact}
-use Rattle.house.proofs.WellFormed.{in-range}
+use Rattle.well_formed.specs.Range.{InRange}
+use Rattle.well_formed.specs.WellFormed.{all, has, above, placeMost, sideMost, orientationMost, pressureMost, sidesWell, atMost, contactWell}
+use Rattle.well_formed.proofs.WellFormed.{in-range}
 use Rattle.framing.specs.Frame.{Frame, headOf}
 use Rattle.framing.proofs.Laws.{frame-law}
 use Rattle.framing.specs.Format.{frameFormat, frameHeadFormat, offset}

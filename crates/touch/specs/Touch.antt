@@ -10,12 +10,12 @@ use Rattle.states.specs.Table.{listed}
 use Rattle.formats.specs.Format.{Got, Format, done, field, such, when, byte}
 use Rattle.fields.specs.Integers.{Integers}
 use Rattle.house.specs.Layout.{contactBytes, touched}
-use Rattle.house.specs.WellFormed.{has, orientationMost, pressureMost}
 use Rattle.house.specs.Fits.{noSides}
 use Rattle.house.specs.declared.Head.{Head}
 use Rattle.house.specs.declared.Point.{Point}
 use Rattle.house.specs.declared.Sides.{Sides}
 use Rattle.house.specs.declared.Contact.{Contact}
+use Rattle.well_formed.specs.WellFormed.{has, orientationMost, pressureMost}
 use Rattle.framing.specs.Frame.{Frame, Body}
 use Rattle.framing.specs.Format.{frameHeadFormat, bodyHeadFormat, frameFormat, bodyFormat, wholeBody}
 use Rattle.framing.specs.declared.BodyHead.{BodyHead}

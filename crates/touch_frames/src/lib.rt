@@ -58,7 +58,7 @@ fn read_offset(rest: &[u8], judged: bool, strictly: bool) -> ReadU8
 pub fn read_frame_head(rest: &[u8], judged: bool, strictly: bool) -> ReadHead
     ensures { λ r. ⌜ Answers (frameHead (takenBy strictly) judged) (now (rest .entry)) (headGot r (now (rest .entry))) (headLength r) ⌝ }
 {
-    let got_count = read_count(rest, house::CONTACTS_MOST, strictly);
+    let got_count = read_count(rest, well_formed::CONTACTS_MOST, strictly);
     let ReadU2::Value(count, at_offset) = got_count else {
         return ReadHead::Refused(got_count.refusal());
     };

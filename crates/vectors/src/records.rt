@@ -129,7 +129,7 @@ fn show_head(h: Head) {
 }
 
 fn show_well(records: &[u8]) {
-    if house::is_well_formed(records) {
+    if well_formed::is_well_formed(records) {
         print::word(b"well");
     } else {
         print::word(b"ill");

@@ -12,11 +12,12 @@ use Rattle.paper.specs.Refusals.{badRange}
 use Rattle.formats.specs.Format.{Each, HoldsWhen, such}
 use Rattle.integers.specs.Integer.{limit}
 use Rattle.fields.specs.Integers.{taken}
-use Rattle.house.specs.Fits.{HeadFits, InRange, noSides}
-use Rattle.house.specs.WellFormed.{has, orientationMost, pressureMost, sideMost}
+use Rattle.house.specs.Fits.{HeadFits, noSides}
 use Rattle.house.specs.declared.Head.{Head}
 use Rattle.house.specs.declared.Contact.{Contact}
-use Rattle.house.proofs.WellFormed.{in-range}
+use Rattle.well_formed.specs.Range.{InRange}
+use Rattle.well_formed.specs.WellFormed.{has, orientationMost, pressureMost, sideMost}
+use Rattle.well_formed.proofs.WellFormed.{in-range}
 use Rattle.framing.specs.Frame.{Frame, headOf}
 use Rattle.fields.proofs.Laws.{taken-range}
 use Rattle.framing.specs.Format.{frameFormat, frameHeadFormat}

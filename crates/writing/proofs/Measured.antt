@@ -11,13 +11,13 @@ use Rattle.integers.specs.Answer.{minus}
 use Rattle.integers.proofs.Laws.{writing-most}
 use Rattle.fields.specs.Integers.{taken}
 use Rattle.house.specs.Layout.{recordOf}
-use Rattle.house.specs.WellFormed.{has}
 use Rattle.house.specs.declared.Contact.{Contact}
 use Rattle.house.specs.declared.Head.{Head}
 use Rattle.house.specs.declared.Point.{Point}
 use Rattle.house.specs.declared.Record.{Record}
 use Rattle.house.specs.declared.Record.the-variants as Record
 use Rattle.house.specs.declared.Sides.{Sides}
+use Rattle.well_formed.specs.WellFormed.{has}
 use Rattle.framing.specs.Format.{frameHeadFormat, bodyHeadFormat}
 use Rattle.framing.specs.declared.BodyHead.{BodyHead}
 use Rattle.touch.specs.Touch.{point, sides, optional, optionalOf, contact, frameHead, touchHead}

@@ -5,7 +5,7 @@ ghost use Prim.Native.Nat.{_≤_};
 ghost use lib.ListN.{length};
 ghost use Rattle.formats.specs.Format.{byte};
 ghost use Rattle.fields.specs.Integers.{taken};
-ghost use Rattle.house.specs.WellFormed.{has};
+ghost use Rattle.well_formed.specs.WellFormed.{has};
 ghost use Rattle.messages.specs.Answer.{Put};
 ghost use Rattle.touch.specs.Touch.{point, contact, optional, optionalOf};
 use crate::numbers::put_u2;
@@ -16,7 +16,7 @@ use crate::parts::write_point;
 use crate::parts::write_sides;
 use house::Contact;
 use house::Point;
-use house::has_field;
+use well_formed::has_field;
 
 // The bits of fieldsPresent.
 pub(crate) const SIDES: u16 = 1;

@@ -18,8 +18,8 @@ use house::Head;
 use house::Point;
 use house::Record;
 use house::Sides;
-use house::has_field;
 use paper::Milliseconds;
+use well_formed::has_field;
 
 // x and y.
 fn point_bytes(place: Point) -> usize

@@ -11,9 +11,9 @@ use borrow.Author.Needs.{needs}
 use borrow.Author.Tests.{not-true, not-false}
 use Rattle.slices.proofs.Tails.{tail-is}
 use Rattle.house.specs.Layout.{recordOf}
-use Rattle.house.specs.WellFormed.{wellFormed}
+use Rattle.well_formed.specs.WellFormed.{wellFormed}
+use Rattle.well_formed.proofs.Front.{well-long}
 use Rattle.presses.specs.Choosing.{mayStand, dueAfter, isLegal, statesAfter, isTakenFrom}
-use Rattle.house.proofs.Front.{well-long}
 use Rattle.taken_records.proofs.Judging.{taken-end, taken-ill, taken-astray, taken-illegal, taken-on}
 use Rattle.taken_records.proofs.are_taken.Statement.{statement}
 use Rattle.taken_records.proofs.are_taken.Tie as tie

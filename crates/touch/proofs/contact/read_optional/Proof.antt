@@ -11,7 +11,7 @@ use Rattle.paper.specs.Refusals.{badRange}
 use Rattle.formats.proofs.Steps.{step, stop, Stepped}
 use Rattle.fields.specs.Integers.{Integers, takenBy}
 use Rattle.house.specs.Fits.{noSides}
-use Rattle.house.specs.WellFormed.{has, orientationMost, pressureMost}
+use Rattle.well_formed.specs.WellFormed.{has, orientationMost, pressureMost}
 use Rattle.touch.specs.Touch.{sides, orientation, pressure, optional}
 use Rattle.touch.proofs.Reading.{first, within}
 use Rattle.touch.proofs.contact.read_optional.Statement.{statement}

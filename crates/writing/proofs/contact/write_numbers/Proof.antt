@@ -9,7 +9,7 @@ use denote.Ref.{now}
 use lib.ListN.{length}
 use borrow.Rule.Slice.PartMut.{midOf}
 use Rattle.fields.specs.Integers.{taken}
-use Rattle.house.specs.WellFormed.{has}
+use Rattle.well_formed.specs.WellFormed.{has}
 use Rattle.messages.specs.Answer.{Put}
 use Rattle.messages.proofs.Writing.{Room}
 use Rattle.writing.proofs.Putting.{Parted, first-room, next-room, both-inside, put-both}

@@ -6,7 +6,7 @@ use native.Mathlib.Omega.{arith}
 use denote.Ref.{now}
 use lib.ListN.{length}
 use Rattle.fields.specs.Integers.{taken}
-use Rattle.house.specs.WellFormed.{has}
+use Rattle.well_formed.specs.WellFormed.{has}
 use Rattle.touch.specs.Touch.{sides, optional, optionalOf}
 use Rattle.messages.specs.Answer.{Put}
 use Rattle.messages.proofs.Writing.{Room}

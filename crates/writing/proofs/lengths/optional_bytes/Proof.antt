@@ -6,8 +6,8 @@ use mathlib.Core.List.{[]}
 use native.Mathlib.Omega.{arith}
 use lib.ListN.{length}
 use Rattle.fields.specs.Integers.{taken}
-use Rattle.house.specs.WellFormed.{has}
 use Rattle.house.specs.declared.Contact.{Contact}
+use Rattle.well_formed.specs.WellFormed.{has}
 use Rattle.touch.specs.Touch.{sides}
 use Rattle.writing.proofs.Measured.{optional-sized}
 use borrow.Author.Needs.{needs}

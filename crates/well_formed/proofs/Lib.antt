@@ -1,0 +1,5 @@
+pub mod WellFormed
+pub mod Magnitudes
+pub mod Front
+pub mod Round
+pub mod Unique

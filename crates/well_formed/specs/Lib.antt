@@ -1,0 +1,4 @@
+-- Well-formed house records.
+pub mod WellFormed
+pub mod Range
+pub mod Parts

@@ -29,7 +29,7 @@ contact-formed k c low high f w v =
     record { long = length-contact k c; well = rw append-nil at (contact-well k c [] low high f w v); kind = kind-contact k c high }
 
 -- whatever follows it
-well-before : (s t : List ℕ) → length s ≡ recordBytes → wellFormed s ≡ true → wellFormed (s ++ t) ≡ true
+pub well-before : (s t : List ℕ) → length s ≡ recordBytes → wellFormed s ≡ true → wellFormed (s ++ t) ≡ true
 unfolding wellFormed
 well-before s t e w =
     let a = front-is s t e in

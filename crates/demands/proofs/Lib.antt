@@ -4,5 +4,6 @@ pub mod FirstFault
 pub mod Padding
 pub mod Histories
 pub mod Hovering
+pub mod Made
 pub mod Whole
 pub mod Demands

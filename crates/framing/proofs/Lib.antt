@@ -9,3 +9,4 @@ pub mod Begun
 pub mod Least
 pub mod Whole
 pub mod Agreeing
+pub mod Limits

@@ -19,7 +19,7 @@ oldLimits = record { frames = mostFrames; contacts = oldContactsMost }
 
 -- the body of a touch message, as it was read
 abbrev pub oldBody : Bool → List ℕ → Got Touch
-oldBody = wholeBody taken oldLimits contact
+oldBody = wholeBody taken oldLimits (contact taken)
 
 -- the same records, as they were laid out
 abbrev pub inOldLayout : Effect → Effect

@@ -19,11 +19,11 @@ use Rattle.house.specs.declared.Head.{Head}
 use Rattle.house.specs.declared.Contact.{Contact}
 use Rattle.house.specs.declared.Record.the-variants as Record
 use Rattle.house.proofs.Front.{record-head, record-contact, front-is}
-use Rattle.house.proofs.Round.{length-head, length-contact, kind-head, kind-contact, head-back, contact-back, head-fits, contact-fits}
+use Rattle.house.proofs.Round.{length-head, length-contact, kind-head, kind-contact, head-back, contact-back, contact-fits}
 use Rattle.well_formed.specs.WellFormed.{wellFormed, kindWell}
 use Rattle.well_formed.proofs.WellFormed as well
 use Rattle.well_formed.proofs.Front.{well-long, well-contact}
-use Rattle.well_formed.proofs.Round.{head-well, contact-well, bytes-of-record}
+use Rattle.well_formed.proofs.Round.{head-well, contact-well, head-fits, bytes-of-record}
 use Rattle.framing.specs.Frame.{Frame, headOf, contactsBytes, frameBytes, framesBytes}
 use Rattle.touch.specs.Touch.{touchRecord}
 use Rattle.recordings.specs.Records.{stands, headRecord, contactRecord, frameRecords, readAll, framesIn}

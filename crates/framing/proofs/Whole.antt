@@ -14,7 +14,7 @@ use Rattle.house.specs.Fits.{HeadFits, ContactFits}
 use Rattle.house.specs.declared.Head.{Head}
 use Rattle.house.specs.declared.Contact.{Contact}
 use Rattle.house.proofs.Round.{length-head, length-contact, kind-head, kind-contact, head-back}
-use Rattle.well_formed.specs.WellFormed.{headWell, contactWell, kindWell, wellFormed}
+use Rattle.well_formed.specs.WellFormed.{contactWell, kindWell, wellFormed}
 use Rattle.well_formed.proofs.Front.{well-alone}
 use Rattle.well_formed.proofs.Round.{head-well, contact-well}
 use Rattle.framing.specs.Whole.{Formed, Framed, ends, head, contact, cancel, dismissal}

@@ -10,7 +10,7 @@ use lib.IntN.{ℤ}
 use lib.ListN.{length, take}
 use lib.Seq.{length-take-le}
 use lib.Pow.{high, mod-pow-add}
-use borrow.Author.Tests.{leb-true, eqb-true, le-leb, eq-eqb}
+use borrow.Author.Tests.{eqb-true, eq-eqb}
 use Rattle.digits.specs.Digits.{joined, Bytes}
 use Rattle.digits.proofs.Laws.{bytes-take}
 use Rattle.house.specs.Fields.{field, packed, unpacked, valueAt}

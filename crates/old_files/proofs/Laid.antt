@@ -4,6 +4,7 @@ use Prim.Native.Nat.{ℕ, _≤_, _<_}
 use mathlib.Core.Path.{_≡_, refl, sym, ap, subst, _∙_}
 use mathlib.Core.List.{List, [], _∷_, _++_, append-assoc}
 use lib.Dec.{lit<, lit≤}
+use native.Mathlib.Omega.{arith}
 use lib.ListN.{length}
 use lib.Seq.{drop-at}
 use Rattle.digits.specs.Digits.{Bytes}

@@ -100,8 +100,9 @@ fn flatten(read: Record) -> FlatRecord
 pub fn read_flat(records: &[u8]) -> FlatRecord
     ensures { λ r. ⌜ r ≡ flat (now (records .entry)) ⌝ }
 {
-    if well_formed::is_well_formed(records) {
-        return flatten(house::read_record(records));
+    let read = house::read_record(records);
+    if well_formed::is_well_formed(records, read) {
+        return flatten(read);
     }
     refused(paper::BAD_RECORD)
 }

@@ -38,8 +38,9 @@ pub fn contacts_after(found: Record) -> u16
 pub(crate) fn is_standing(records: &[u8], kind: u8) -> bool
     ensures { λ r. ⌜ r ≡ stands kind (now (records .entry)) ⌝ }
 {
-    if well_formed::is_well_formed(records) {
-        return kind_of(house::read_record(records)) == kind;
+    let found = house::read_record(records);
+    if well_formed::is_well_formed(records, found) {
+        return kind_of(found) == kind;
     }
     false
 }

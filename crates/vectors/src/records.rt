@@ -128,8 +128,8 @@ fn show_head(h: Head) {
     print::number(offset.0);
 }
 
-fn show_well(records: &[u8]) {
-    if well_formed::is_well_formed(records) {
+fn show_well(records: &[u8], record: Record) {
+    if well_formed::is_well_formed(records, record) {
         print::word(b"well");
     } else {
         print::word(b"ill");
@@ -142,11 +142,11 @@ pub(crate) fn run_record(records: &[u8]) {
     match record {
         Record::Head(h) => {
             show_head(h);
-            show_well(records);
+            show_well(records, record);
         }
         Record::Contact(kind, c) => {
             show_contact(kind, c);
-            show_well(records);
+            show_well(records, record);
         }
         Record::Refused(e) => print::refused(e),
     }

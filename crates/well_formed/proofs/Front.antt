@@ -1,6 +1,6 @@
 -- Whether what stands at the front of a slice of records is well formed: too few bytes, a head or a contact.
 -- Assumes nothing.
-use mathlib.Core.Path.{_≡_}
+use mathlib.Core.Path.{_≡_, ap}
 use mathlib.Core.Bool.{true, false}
 use mathlib.Core.List.{List, [], _∷_, _++_}
 use Prim.Native.Nat.{ℕ, _≤_, _<_}
@@ -8,10 +8,16 @@ use lib.Dec.{eqb}
 use lib.ListN.{length, take}
 use borrow.Author.Tests.{lt-leb}
 use Rattle.house.specs.Fields.{recordBytes}
-use Rattle.house.specs.Layout.{kindOf, headIn, contactOf, headSpare, contactSpare, spareZero}
+use Rattle.house.specs.Layout.{kindOf, headIn, contactOf, recordOf, headSpare, contactSpare, spareZero}
+use Rattle.house.specs.declared.Record.{Record}
 use Rattle.house.proofs.Front.{Front, short, head, contact, front, record-head, record-contact, spare-head, spare-contact, record-alone, spare-alone}
-use Rattle.well_formed.specs.WellFormed.{all, headWell, contactWell, kindWell, recordWell, wellFormed}
+use Rattle.well_formed.specs.WellFormed.{all, headWell, contactWell, kindWell, recordWell, wellAs, wellFormed}
 use Rattle.well_formed.proofs.WellFormed.{never}
+
+-- what was read there is the record that is there
+pub well-read : (l : List ℕ) (r : Record) → r ≡ recordOf l → wellAs l r ≡ wellFormed l
+unfolding wellFormed
+well-read l r e = ap (wellAs l) e
 
 pub well-short : (l : List ℕ) → length l < 21 → wellFormed l ≡ false
 unfolding wellFormed spareZero all

@@ -90,6 +90,10 @@ recordWell (Record.Head h) = headWell h ∷ []
 recordWell (Record.Contact kind c) = contactWell c ∷ kindWell kind c ∷ []
 recordWell (Record.Refused e) = false ∷ []
 
--- the record there is whole and well formed
+-- one that was read there is whole and well formed
+abbrev pub wellAs : List ℕ → Record → Bool
+wellAs l r = all (spareZero l ∷ recordWell r)
+
+-- the one that is there
 unfoldable pub wellFormed : List ℕ → Bool
-wellFormed l = all (spareZero l ∷ recordWell (recordOf l))
+wellFormed l = wellAs l (recordOf l)

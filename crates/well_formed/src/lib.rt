@@ -1,7 +1,7 @@
 // Which house records are well formed.
 use house::Record;
 ghost use mathlib.Core.Path.{_≡_};
-ghost use Rattle.well_formed.specs.WellFormed.{wellFormed};
+ghost use Rattle.well_formed.specs.WellFormed.{wellAs};
 
 mod signs;
 mod well;
@@ -19,12 +19,11 @@ pub const ORIENTATION_MOST: u16 = 359;
 
 pub const PRESSURE_MOST: u16 = 65000;
 
-// Whether the record at the front of a slice of records is whole and well formed.
-pub fn is_well_formed(records: &[u8]) -> bool
-    ensures { λ r. ⌜ r ≡ wellFormed (now (records .entry)) ⌝ }
+// Whether a record that was read at the front of a slice of records is whole and well formed: whoever asks has read it, and need not again.
+pub fn is_well_formed(records: &[u8], read: Record) -> bool
+    ensures { λ r. ⌜ r ≡ wellAs (now (records .entry)) read ⌝ }
 {
     let spare_zero = house::is_spare_zero(records);
-    let read = house::read_record(records);
     match read {
         Record::Head(head) => spare_zero & well::is_head_well(head),
         Record::Contact(kind, contact) => {

@@ -5,17 +5,16 @@ use mathlib.Core.Bool.{Bool, true, false, _&&_}
 use mathlib.Core.List.{List, _∷_}
 use Prim.Native.Nat.{ℕ}
 use borrow.Author.Needs.{needs}
-use Rattle.house.specs.Layout.{recordOf, spareZero}
+use Rattle.house.specs.Layout.{spareZero}
 use Rattle.house.specs.declared.Record.{Record}
-use Rattle.well_formed.specs.WellFormed.{all, recordWell, wellFormed}
+use Rattle.well_formed.specs.WellFormed.{all, recordWell, wellAs}
 use Rattle.well_formed.proofs.WellFormed.{ands, ands-all}
 use Rattle.well_formed.proofs.is_well_formed.Statement.{statement}
 use Rattle.well_formed.proofs.is_well_formed.Tie as tie
 
 -- the unused bits and then the rules for what was read
-judged : (l : List ℕ) (spare : Bool) {read q : Record} → spare ≡ spareZero l → read ≡ recordOf l → read ≡ q → ands spare (recordWell q) ≡ wellFormed l
-unfolding wellFormed
-judged l spare {q = q} s r e = ands-all spare (recordWell q) ∙ (λ i. all (s i ∷ recordWell ((sym e ∙ r) i)))
+judged : (l : List ℕ) (spare : Bool) {read q : Record} → spare ≡ spareZero l → read ≡ q → ands spare (recordWell q) ≡ wellAs l read
+judged l spare {q = q} s e = ands-all spare (recordWell q) ∙ (λ i. all (s i ∷ recordWell (sym e i)))
 
 refusing : (b : Bool) → false ≡ b && false
 refusing true = refl
@@ -23,9 +22,6 @@ refusing false = refl
 
 is-spare-zero-requires : tie.Need-is-spare-zero-requires
 is-spare-zero-requires c κs = search needs
-
-read-record-requires : tie.Need-read-record-requires
-read-record-requires c κs = search needs
 
 enum-known-read : tie.Need-enum-known-read
 enum-known-read c = search needs
@@ -50,8 +46,8 @@ unfolding recordWell
 returns c =
     let m = c .before .before in
     let r = m .before .before in
-    let b = r .before .is-spare-zero .result in
-    ap (λ (w : Bool). b && w) (c .is-head-well .ensures) ∙ judged _ b (r .before .is-spare-zero .ensures) (r .read-record .ensures) (m .read .given .1)
+    let b = r .is-spare-zero .result in
+    ap (λ (w : Bool). b && w) (c .is-head-well .ensures) ∙ judged _ b (r .is-spare-zero .ensures) (m .read .given .1)
 
 returns-2 : tie.Need-returns-2
 unfolding recordWell
@@ -59,23 +55,21 @@ returns-2 c =
     let w = c .before in
     let m = w .before .before in
     let r = m .before .before in
-    let b = r .before .is-spare-zero .result in
-    (λ i. (b && w .is-contact-well .ensures i) && c .is-kind-well .ensures i)
-    ∙ judged _ b (r .before .is-spare-zero .ensures) (r .read-record .ensures) (m .read2 .given .1)
+    let b = r .is-spare-zero .result in
+    (λ i. (b && w .is-contact-well .ensures i) && c .is-kind-well .ensures i) ∙ judged _ b (r .is-spare-zero .ensures) (m .read2 .given .1)
 
 returns-3 : tie.Need-returns-3
 unfolding recordWell
 returns-3 c =
     let r = c .before .before in
-    let b = r .before .is-spare-zero .result in
-    refusing b ∙ judged _ b (r .before .is-spare-zero .ensures) (r .read-record .ensures) (c .enum-told .given .1)
+    let b = r .is-spare-zero .result in
+    refusing b ∙ judged _ b (r .is-spare-zero .ensures) (c .enum-told .given .1)
 
 pub is-well-formed-spec : {M : Type 1} → statement M
 is-well-formed-spec =
     tie.close
     (tie.spec
     is-spare-zero-requires
-    read-record-requires
     enum-known-read
     is-head-well-requires
     enum-known-read-2

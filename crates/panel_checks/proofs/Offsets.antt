@@ -14,12 +14,12 @@ use Rattle.channel.specs.Marks.{judgedBy}
 use Rattle.recordings.specs.Records.{framesIn, readAll}
 use Rattle.panels.specs.Panel.{offsetStands}
 use Rattle.panels.specs.declared.Panel.{Panel}
-use Rattle.panel_checks.specs.Checks.{offsetIn}
+use Rattle.panel_checks.specs.Checks.{offsetIn, firstStands}
 use Rattle.panel_checks.proofs.Recorded.{parts, first}
 
 module _ (p : Panel) where
   -- not judged, it stands
-  pub offset-free : judgedBy (p .settings .flags) (p .begun) ≡ false → (fs : List (Frame Contact)) → true ≡ offsetStands p fs
+  offset-free : judgedBy (p .settings .flags) (p .begun) ≡ false → (fs : List (Frame Contact)) → true ≡ offsetStands p fs
   offset-free h [] = refl
   offset-free h (f ∷ fs) = sym (ap (λ (b : Bool). cond b (eqb (f .offset .0) 0) true) h)
 
@@ -28,7 +28,7 @@ module _ (p : Panel) where
     offset-first f fs = sym (ap (λ (b : Bool). cond b (eqb (f .offset .0) 0) true) h)
 
     -- judged, it is 0; where there is no frame, there is no offset
-    pub offset-judged : (l : List ℕ) (fs : List (Frame Contact)) (rest : List ℕ) → framesIn l ≡ got fs rest → eqb (offsetIn (recordOf l)) 0 ≡ offsetStands p fs
+    offset-judged : (l : List ℕ) (fs : List (Frame Contact)) (rest : List ℕ) → framesIn l ≡ got fs rest → eqb (offsetIn (recordOf l)) 0 ≡ offsetStands p fs
     unfolding framesIn readAll recordOf
     offset-judged [] fs rest e =
         let z : [] ≡ fs = cc in
@@ -37,3 +37,11 @@ module _ (p : Panel) where
         let w = first (x ∷ l) fs rest (omega arith) e in
         let o = parts (x ∷ l) (w .frame) (w .after) (w .read) .offset in
         ap (λ (n : ℕ). eqb n 0) o ∙ offset-first (w .frame) (w .others) ∙ ap (offsetStands p) (sym (w .all))
+
+  pub first-stands : (l : List ℕ) (fs : List (Frame Contact)) (rest : List ℕ) → framesIn l ≡ got fs rest
+      → firstStands (p .settings .flags) (p .begun) (recordOf l) ≡ offsetStands p fs
+  first-stands l fs rest e = go (judgedBy (p .settings .flags) (p .begun)) refl
+    where
+      go : (b : Bool) → judgedBy (p .settings .flags) (p .begun) ≡ b → firstStands (p .settings .flags) (p .begun) (recordOf l) ≡ offsetStands p fs
+      go true h = rw h (offset-judged h l fs rest e)
+      go false h = rw h (offset-free h fs)

@@ -2,19 +2,11 @@
 use house::Record;
 use paper::Milliseconds;
 use recordings::Counted;
-ghost use Prim.Native.Nat.{ℕ};
 ghost use mathlib.Core.Path.{_≡_};
-ghost use mathlib.Core.List.{List};
-ghost use Rattle.formats.specs.Format.{got};
 ghost use Rattle.house.specs.Layout.{recordOf};
-ghost use Rattle.house.specs.declared.Contact.{Contact};
-ghost use Rattle.framing.specs.Frame.{Frame};
-ghost use Rattle.recordings.specs.Records.{framesIn};
 ghost use Rattle.recordings.specs.Answer.{counted, countedGot};
 ghost use Rattle.writing.specs.TouchDraft.{checkedFrames};
-ghost use Rattle.panels.specs.Panel.{offsetStands};
-ghost use Rattle.panels.specs.declared.Panel.{Panel};
-ghost use Rattle.panel_checks.specs.Checks.{permitted, offsetIn};
+ghost use Rattle.panel_checks.specs.Checks.{permitted, offsetIn, firstStands};
 
 // How many frames records are, where a touch message of them may be written now: 10, 14, 15, 16.
 pub fn check(ready: u8, suspended: u8, time: Milliseconds, records: &[u8]) -> Counted
@@ -49,7 +41,7 @@ fn first_offset(records: &[u8]) -> u64
 
 // Whether the first frame's offset is 0 where it has to be.
 pub fn offset_stands(records: &[u8], flags: u32, begun: u8) -> bool
-    ensures { λ r. ⌜ ((fs : List (Frame Contact)) (rest : List ℕ) → framesIn (now (records .entry)) ≡ got fs rest → (p : Panel) → p .settings .flags ≡ flags → p .begun ≡ begun → r ≡ offsetStands p fs) ⌝ }
+    ensures { λ r. ⌜ r ≡ firstStands flags begun (recordOf (now (records .entry))) ⌝ }
 {
     if channel::is_judged(flags, begun) {
         return first_offset(records) == 0;

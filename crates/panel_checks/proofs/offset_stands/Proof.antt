@@ -1,11 +1,9 @@
--- `panel_checks::offset_stands` meets its contract.
+-- `panel_checks::offset_stands` meets its contract: whether it is judged picks the case.
 -- Assumes nothing.
 use borrow.Author.Needs.{needs}
 use Prim.Native.Nat.{ℕ}
 use mathlib.Core.Path.{sym, ap, _∙_}
 use lib.Dec.{eqb}
-use Rattle.channel.specs.Marks.{judgedBy}
-use Rattle.panel_checks.proofs.Offsets.{offset-free, offset-judged}
 use Rattle.panel_checks.proofs.offset_stands.Statement.{statement}
 use Rattle.panel_checks.proofs.offset_stands.Tie as tie
 
@@ -16,15 +14,10 @@ first-offset-requires : tie.Need-first-offset-requires
 first-offset-requires c κs = search needs
 
 returns : tie.Need-returns
-returns c fs rest e p f b =
-    let j = c .before .before in
-    let h = (λ i. judgedBy (f i) (b i)) ∙ sym (j .is-judged .ensures) ∙ c .before .if1 .taken in
-    ap (λ (n : ℕ). eqb n 0) (c .first-offset .ensures) ∙ offset-judged p h _ fs rest e
+returns c = rw (sym (c .before .before .is-judged .ensures) ∙ c .before .if1 .taken) (ap (λ (n : ℕ). eqb n 0) (c .first-offset .ensures))
 
 returns-2 : tie.Need-returns-2
-returns-2 c fs rest e p f b =
-    let h = (λ i. judgedBy (f i) (b i)) ∙ sym (c .before .is-judged .ensures) ∙ c .if1 .left in
-    offset-free p h fs
+returns-2 c = rw (sym (c .before .is-judged .ensures) ∙ c .if1 .left)
 
 pub offset-stands-spec : {M : Type 1} → statement M
 offset-stands-spec = tie.close (tie.spec is-judged-requires first-offset-requires returns returns-2)

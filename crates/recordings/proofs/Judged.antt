@@ -17,13 +17,14 @@ use Rattle.formats.proofs.Steps.{skipped-made}
 use Rattle.house.specs.Layout.{kindOf, headIn, contactOf, recordOf, head, touched}
 use Rattle.house.specs.declared.Head.{Head}
 use Rattle.house.specs.declared.Contact.{Contact}
+use Rattle.house.specs.declared.Record.{Record}
 use Rattle.house.proofs.Front.{Front, front, record-head, record-contact}
-use Rattle.well_formed.specs.WellFormed.{wellFormed}
+use Rattle.well_formed.specs.WellFormed.{wellAs, wellFormed}
 use Rattle.well_formed.proofs.WellFormed as well
-use Rattle.well_formed.proofs.Front.{well-short}
+use Rattle.well_formed.proofs.Front.{well-read, well-short}
 use Rattle.framing.specs.Frame.{Frame, headOf}
 use Rattle.recordings.specs.Records.{stands, headRecord, contactRecord, frameRecords, readAll, framesIn}
-use Rattle.recordings.specs.Answer.{kindIn, contactsAfter, counted}
+use Rattle.recordings.specs.Answer.{kindIn, contactsAfter, standsAs, counted}
 use Rattle.recordings.proofs.Records.{passed, stood}
 
 -- ---- one record
@@ -33,11 +34,16 @@ kind-front l (Front.short h) w = well.never w (well-short l h)
 kind-front l (Front.head h k) w = ap kindIn (record-head l h k) ∙ sym k
 kind-front l (Front.contact h k) w = ap kindIn (record-contact l h k)
 
-pub stands-well : (kind : ℕ) (l : List ℕ) → wellFormed l ≡ true → eqb (kindIn (recordOf l)) kind ≡ stands kind l
-stands-well kind l w = rw w (ap (λ (k : ℕ). eqb k kind) (kind-front l (front l) w))
+-- what was read there is what stands there
+pub stands-read : (kind : ℕ) (l : List ℕ) (r : Record) → r ≡ recordOf l → standsAs kind l r ≡ stands kind l
+stands-read kind l r e = go (wellFormed l) refl
+  where
+    w : wellAs l r ≡ wellFormed l
+    w = well-read l r e
 
-pub stands-not : (kind : ℕ) (l : List ℕ) → wellFormed l ≡ false → false ≡ stands kind l
-stands-not kind l w = rw w
+    go : (b : Bool) → wellFormed l ≡ b → standsAs kind l r ≡ stands kind l
+    go true h = rw (w, h) (ap (λ (k : ℕ). eqb k kind) (ap kindIn e ∙ kind-front l (front l) h))
+    go false h = rw (w, h)
 
 pub contact-stands : (l : List ℕ) (at : ℕ) → stands touched (drop at l) ≡ true → contactRecord .read (drop at l) ≡ got (contactOf (take 21 (drop at l))) (drop (at + 21) l)
 contact-stands l at h =

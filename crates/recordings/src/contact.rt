@@ -1,5 +1,5 @@
 // A frame's contact, read from its record.
-use crate::judge::is_standing;
+use crate::judge::is_of_kind;
 use house::Record;
 use touch::ReadContact;
 ghost use Rattle.formats.specs.Answer.{Answers};
@@ -10,10 +10,11 @@ ghost use Rattle.recordings.specs.Records.{contactRecord};
 pub fn read_contact(records: &[u8]) -> ReadContact
     ensures { λ r. ⌜ Answers contactRecord (now (records .entry)) (contactGot r (now (records .entry))) (contactLength r) ⌝ }
 {
-    if !is_standing(records, house::TOUCHED) {
+    let found = house::read_record(records);
+    if !is_of_kind(records, found, house::TOUCHED) {
         return ReadContact::Refused(paper::BAD_RECORD);
     }
-    match house::read_record(records) {
+    match found {
         Record::Head(_) => ReadContact::Refused(paper::BAD_RECORD),
         Record::Contact(_, contact) => ReadContact::Value(contact, house::RECORD_BYTES),
         Record::Refused(e) => ReadContact::Refused(e),

@@ -4,7 +4,7 @@ ghost use Rattle.formats.specs.Format.{times};
 ghost use Rattle.formats.specs.Answer.{Answers, skip};
 ghost use Rattle.touch.specs.Answer.{endGot, endLength};
 ghost use Rattle.recordings.specs.Records.{stands, contactRecord, frameRecords, framesIn};
-ghost use Rattle.recordings.specs.Answer.{kindIn, contactsAfter, counted, countedGot};
+ghost use Rattle.recordings.specs.Answer.{kindIn, contactsAfter, standsAs, counted, countedGot};
 use crate::Counted;
 use house::Record;
 use touch::End;
@@ -34,15 +34,21 @@ pub fn contacts_after(found: Record) -> u16
     }
 }
 
-// Whether a well-formed record of a kind stands at the front.
-pub(crate) fn is_standing(records: &[u8], kind: u8) -> bool
-    ensures { λ r. ⌜ r ≡ stands kind (now (records .entry)) ⌝ }
+// Whether the record that was read at the front is well formed and of a kind.
+pub(crate) fn is_of_kind(records: &[u8], found: Record, kind: u8) -> bool
+    ensures { λ r. ⌜ r ≡ standsAs kind (now (records .entry)) found ⌝ }
 {
-    let found = house::read_record(records);
     if well_formed::is_well_formed(records, found) {
         return kind_of(found) == kind;
     }
     false
+}
+
+// Whether a well-formed record of a kind stands at the front.
+fn is_standing(records: &[u8], kind: u8) -> bool
+    ensures { λ r. ⌜ r ≡ stands kind (now (records .entry)) ⌝ }
+{
+    is_of_kind(records, house::read_record(records), kind)
 }
 
 // Where n contacts end.
@@ -65,10 +71,11 @@ fn skip_contacts(records: &[u8], n: usize) -> End
 fn skip_frame(records: &[u8]) -> End
     ensures { λ r. ⌜ Answers (skip frameRecords) (now (records .entry)) (endGot r (now (records .entry))) (endLength r) ⌝ }
 {
-    if !is_standing(records, house::HEAD) {
+    let found = house::read_record(records);
+    if !is_of_kind(records, found, house::HEAD) {
         return End::Refused(paper::BAD_RECORD);
     }
-    let count = contacts_after(house::read_record(records));
+    let count = contacts_after(found);
     let got_end = skip_contacts(&records[house::RECORD_BYTES..], count as usize);
     let End::At(n) = got_end else {
         return got_end;

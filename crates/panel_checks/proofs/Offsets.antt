@@ -9,6 +9,7 @@ use lib.Dec.{eqb}
 use Rattle.formats.specs.Format.{got}
 use Rattle.house.specs.Layout.{recordOf}
 use Rattle.house.specs.declared.Contact.{Contact}
+use Rattle.house.specs.declared.Record.{Record}
 use Rattle.framing.specs.Frame.{Frame}
 use Rattle.channel.specs.Marks.{judgedBy}
 use Rattle.recordings.specs.Records.{framesIn, readAll}
@@ -17,6 +18,14 @@ use Rattle.panels.specs.declared.Panel.{Panel}
 use Rattle.panel_checks.specs.Checks.{offsetIn, firstStands}
 use Rattle.panel_checks.proofs.Recorded.{parts, first}
 
+-- of the record at the front: not judged, it stands; judged, it is 0
+pub stands-free : (flags begun : ℕ) (r : Record) → judgedBy flags begun ≡ false → true ≡ firstStands flags begun r
+stands-free flags begun r h = sym (ap (λ (b : Bool). cond b (eqb (offsetIn r) 0) true) h)
+
+pub stands-judged : (flags begun : ℕ) (r : Record) → judgedBy flags begun ≡ true → eqb (offsetIn r) 0 ≡ firstStands flags begun r
+stands-judged flags begun r h = sym (ap (λ (b : Bool). cond b (eqb (offsetIn r) 0) true) h)
+
+-- of frames the same
 module _ (p : Panel) where
   -- not judged, it stands
   offset-free : judgedBy (p .settings .flags) (p .begun) ≡ false → (fs : List (Frame Contact)) → true ≡ offsetStands p fs
@@ -43,5 +52,5 @@ module _ (p : Panel) where
   first-stands l fs rest e = go (judgedBy (p .settings .flags) (p .begun)) refl
     where
       go : (b : Bool) → judgedBy (p .settings .flags) (p .begun) ≡ b → firstStands (p .settings .flags) (p .begun) (recordOf l) ≡ offsetStands p fs
-      go true h = rw h (offset-judged h l fs rest e)
-      go false h = rw h (offset-free h fs)
+      go true h = sym (stands-judged (p .settings .flags) (p .begun) (recordOf l) h) ∙ offset-judged h l fs rest e
+      go false h = sym (stands-free (p .settings .flags) (p .begun) (recordOf l) h) ∙ offset-free h fs

@@ -2,15 +2,21 @@
 -- Assumes nothing.
 use Prim.Native.Nat.{ℕ, suc, _+_, _-_, _≤_, _<_}
 use mathlib.Core.Path.{_≡_, refl, sym, ap, _∙_}
-use mathlib.Core.List.{List, [], _∷_, _++_, append-nil}
+use mathlib.Core.Bool.{Bool, true, false, cond}
+use mathlib.Core.List.{List, [], _∷_, _++_}
 use native.Mathlib.Nat.{add-zero, sub-zero}
 use native.Mathlib.Numerals.{add-one}
 use native.Mathlib.Omega.{arith}
+use borrow.Author.Tests.{le-leb, lt-leb}
 use borrow.Rule.Slice.PartMut.{putMid}
+use lib.Dec.{leb}
 use lib.ListN.{length, getD, set, take, drop, length-set, length-drop, take-append-drop}
 use lib.Seq.{take-suc, take-suc-set, drop-set-lt, drop-drop, getD-drop, take-take, take-at, length-take-le}
+use Rattle.entries.specs.Entries.{frontOf}
+use Rattle.entries.specs.declared.Front.{Front}
+use Rattle.entries.specs.declared.Front.the-variants as Front
 use Rattle.feed.specs.declared.Window.{Window}
-use Rattle.feed.specs.Within.{Inside, bytesIn, Moves, ReadsOn, Fills}
+use Rattle.feed.specs.Within.{Inside, isInside, bytesIn, Moves, ReadsOn, Fills}
 
 -- ---- byte by byte
 
@@ -56,15 +62,38 @@ before-tail d l kept h = take-at (take kept d) _ kept (length-take-le kept d h)
 
 -- ---- filled
 
-pub filled-none : (w r : Window) (before : List ℕ) → (r .at ≡ 0) × (r .end ≡ 0) → (Inside (length before) w → ⊥) → Fills w r before before
+abbrev nothing : Window
+nothing = record { at = 0; end = 0 }
+
+is-inside : (n : ℕ) (w : Window) → Inside n w → isInside n w ≡ true
+is-inside n w h = rw (le-leb _ _ (h .order), le-leb _ _ (h .inside))
+
+-- a window that ends before it begins, or behind the space, is not the space's
+pub is-turned : (n : ℕ) (w : Window) → w .end < w .at → isInside n w ≡ false
+is-turned n w h = rw (lt-leb _ _ h)
+
+pub is-beyond : (n : ℕ) (w : Window) → n < w .end → isInside n w ≡ false
+is-beyond n w h = rw (lt-leb (w .end) n h) (go (leb (w .at) (w .end)))
+  where
+    go : (b : Bool) → cond b false false ≡ false
+    go true = refl
+    go false = refl
+
+pub filled-none : (w r : Window) (before : List ℕ) → r ≡ nothing → isInside (length before) w ≡ false → Fills w r before before
 filled-none w r before e u =
-    record { window = record { order = omega (arith, e .0, e .1); inside = omega (arith, e .1) }; read = []; kept = λ i. absurd (u i) }
+    let i : Inside (length before) nothing = record { order = omega arith; inside = omega arith } in
+    record { by = rw u (e, refl); window = rw e i; long = refl }
 
-pub filled-same : (w : Window) (before : List ℕ) → Inside (length before) w → Fills w w before before
-filled-same w before h = record { window = h; read = []; kept = λ i. sym (append-nil (bytesIn w before)) }
+pub filled-same : (w : Window) (before : List ℕ) (n : ℕ) → Inside (length before) w → frontOf (bytesIn w before) ≡ Front.Entry n → Fills w w before before
+filled-same w before n h e = record { by = rw (is-inside (length before) w h, e) (refl, refl); window = h; long = refl }
 
-pub filled-on : (w : Window) (kept end : ℕ) (before moved after : List ℕ) → Moves w kept before moved → ReadsOn kept end moved after → Fills w (record { at = 0; end = end }) before after
-filled-on w kept end before moved after m n =
+pub filled-on : (w : Window) (kept end : ℕ) (before moved after : List ℕ) → Inside (length before) w → frontOf (bytesIn w before) ≡ Front.Part
+    → Moves w kept before moved → ReadsOn kept end moved after → Fills w (record { at = 0; end = end }) before after
+filled-on w kept end before moved after h p m n =
     let e : take kept (take end after) ≡ bytesIn w before = take-take kept end after (n .order) ∙ (n .front ∙ m .front) in
     let all : take end after ≡ bytesIn w before ++ drop kept (take end after) = sym (take-append-drop kept (take end after)) ∙ ap (λ (l : List ℕ). l ++ drop kept (take end after)) e in
-    record { window = record { order = omega arith; inside = n .inside }; read = drop kept (take end after); kept = λ i. simp sub-zero all }
+    record {
+      by = rw (is-inside (length before) w h, p) (record { begins = refl; read = drop kept (take end after); kept = simp sub-zero all });
+      window = record { order = omega arith; inside = n .inside };
+      long = n .long ∙ m .long;
+    }

@@ -1,8 +1,13 @@
--- Windows of a space: what is handed out lies within the space, and nothing of it is lost while more is read.
+-- Windows of a space: nothing of them is lost while more is read, and what is handed out is what stands there. What is read no contract can say.
 use Prim.Native.Nat.{ℕ, _+_, _-_, _≤_}
 use mathlib.Core.Path.{_≡_}
+use mathlib.Core.Bool.{Bool, true, false, cond}
 use mathlib.Core.List.{List, _++_}
+use lib.Dec.{leb}
 use lib.ListN.{length, take, drop}
+use Rattle.entries.specs.Entries.{frontOf}
+use Rattle.entries.specs.declared.Front.{Front}
+use Rattle.entries.specs.declared.Front.the-variants as Front
 use Rattle.feed.specs.declared.Window.{Window}
 use Rattle.feed.specs.declared.Next.{Next}
 use Rattle.feed.specs.declared.Next.the-variants as Next
@@ -29,11 +34,32 @@ pub record ReadsOn (kept end : ℕ) (before after : List ℕ) : Type 0 where
   pub front : take kept after ≡ take kept before
   pub long : length after ≡ length before
 
--- the window r has the bytes of the window w, where that was the space's, and then those that were read
-pub record Fills (w r : Window) (before after : List ℕ) : Type 0 where
-  pub window : Inside (length after) r
+-- ---- a window is filled
+
+-- whether it is a window of a space of n bytes
+abbrev pub isInside : ℕ → Window → Bool
+isInside n w = cond (leb (w .at) (w .end)) (leb (w .end) n) false
+
+-- the window r begins with the bytes of the window w, and then has those that were read
+pub record ReadsBehind (w r : Window) (before after : List ℕ) : Type 0 where
+  pub begins : r .at ≡ 0
   pub read : List ℕ
-  pub kept : Inside (length before) w → bytesIn r after ≡ bytesIn w before ++ read
+  pub kept : bytesIn r after ≡ bytesIn w before ++ read
+
+-- of a window that is not the space's nothing is kept; where a whole entry is at its front nothing is read; otherwise it is read on
+abbrev pub FillsBy : Bool → Front → Window → Window → List ℕ → List ℕ → Type 0
+FillsBy false f w r before after = (r ≡ record { at = 0; end = 0 }) × (after ≡ before)
+FillsBy true (Front.Entry n) w r before after = (r ≡ w) × (after ≡ before)
+FillsBy true Front.Part w r before after = ReadsBehind w r before after
+
+-- THE CONTRACT of filling the window w, after which it is r
+pub record Fills (w r : Window) (before after : List ℕ) : Type 0 where
+  pub by : FillsBy (isInside (length before) w) (frontOf (bytesIn w before)) w r before after
+  -- what a caller needs beside it
+  pub window : Inside (length after) r
+  pub long : length after ≡ length before
+
+-- ---- what is handed out
 
 -- an entry's message and the window after it lie within n bytes, and its two length bytes stand before it
 pub record Entered (n at long : ℕ) (w : Window) : Type 0 where
@@ -45,3 +71,20 @@ abbrev pub Within : ℕ → Next → Type 0
 Within n (Next.Entry at long w) = Entered n at long w
 Within n Next.Cut = Unit {0}
 Within n Next.End = Unit {0}
+
+-- the entry at the front of a window and the rest behind it, or a part of an entry
+abbrev pub frontNext : Front → Window → Next
+frontNext (Front.Entry n) w = Next.Entry (w .at + 2) n (record { at = w .at + 2 + n; end = w .end })
+frontNext Front.Part w = Next.Cut
+
+-- what comes next in a window that was filled
+abbrev pub handedOut : Window → List ℕ → Next
+handedOut w space = cond (leb (w .end) (w .at)) Next.End (frontNext (frontOf (bytesIn w space)) w)
+
+-- THE CONTRACT of handing out: by the window as it was filled all is decided
+pub record HandsOut (w : Window) (r : Next) (before after : List ℕ) : Type 0 where
+  pub filled : Window
+  pub fills : Fills w filled before after
+  pub next : r ≡ handedOut filled after
+  -- what a caller needs, and follows
+  pub within : Within (length after) r

@@ -3,7 +3,8 @@ use entries::Front;
 ghost use mathlib.Core.Path.{_≡_};
 ghost use Prim.Native.Nat.{_+_, _≤_};
 ghost use lib.ListN.{length};
-ghost use Rattle.feed.specs.Within.{Inside, Within, Moves, ReadsOn, Fills};
+ghost use Rattle.entries.specs.Entries.{frontOf};
+ghost use Rattle.feed.specs.Within.{Inside, bytesIn, Moves, ReadsOn, Fills, frontNext, HandsOut};
 
 // How much space every entry fits into: two bytes of length and 65,535 more, and as much again to read ahead.
 pub const SPACE: usize = 131072;
@@ -26,7 +27,7 @@ pub enum Next {
 
 // Nothing read yet.
 pub fn opened() -> Window
-    ensures { λ r. ⌜ (r .at ≡ 0) × (r .end ≡ 0) ⌝ }
+    ensures { λ r. ⌜ r ≡ record { at = 0; end = 0 } ⌝ }
 {
     Window { at: 0, end: 0 }
 }
@@ -78,11 +79,13 @@ pub fn fill(input: i32, space: &mut [u8], window: Window) -> Window
     }
 }
 
-// The entry that stands at a place of the bytes up to end, if it is whole.
-fn entry_at(space: &[u8], at: usize, end: usize) -> Next
-    requires { ⌜ (at ≤ end) × (end ≤ length (now space)) ⌝ }
-    ensures { λ r. ⌜ Within (length (now (space .entry))) r ⌝ }
+// The entry at the front of a window, if it is whole.
+fn entry_in(space: &[u8], window: Window) -> Next
+    requires { ⌜ Inside (length (now space)) window ⌝ }
+    ensures { λ r. ⌜ r ≡ frontNext (frontOf (bytesIn window (now (space .entry)))) window ⌝ }
 {
+    let at = window.at;
+    let end = window.end;
     let seen = entries::read_front(&space[at..end]);
     let Front::Entry(n) = seen else {
         return Next::Cut;
@@ -97,13 +100,11 @@ fn entry_at(space: &[u8], at: usize, end: usize) -> Next
 
 // The next entry of standard input.
 pub fn next_entry(space: &mut [u8], window: Window) -> Next
-    ensures { λ r. ⌜ Within (length (now (space .exit))) r ⌝ }
+    ensures { λ r. ⌜ HandsOut window r (now (space .entry)) (now (space .exit)) ⌝ }
 {
     let filled = fill(libc::STDIN_FILENO, space, window);
-    let at = filled.at;
-    let end = filled.end;
-    if end <= at {
+    if filled.end <= filled.at {
         return Next::End;
     }
-    entry_at(space, at, end)
+    entry_in(space, filled)
 }

@@ -1,22 +1,29 @@
 -- `feed::fill` meets its contract: what was read and not yet handed out is kept.
 -- Assumes nothing.
 use borrow.Author.Needs.{needs}
+use mathlib.Core.Path.{sym, _∙_}
 use native.Mathlib.Omega.{arith}
-use Rattle.feed.proofs.Moving.{filled-none, filled-same, filled-on}
+use lib.ListN.{length}
+use Rattle.feed.specs.Within.{Inside}
+use Rattle.feed.proofs.Moving.{is-turned, is-beyond, filled-none, filled-same, filled-on}
 use Rattle.feed.proofs.fill.Statement.{statement}
 use Rattle.feed.proofs.fill.Tie as tie
+
+-- the window is the space's
+inside : (c : tie.After-read-front) → let a = c .before .before .before .before .before .before .args in Inside (length (a .space .now)) (a .window)
+inside c = let e = c .before .before .before in record { order = omega (arith, e .if2 .left); inside = omega (arith, e .before .if1 .left) }
 
 opened-requires : tie.Need-opened-requires
 opened-requires c κs = search needs
 
 returns : tie.Need-returns
-returns c = filled-none _ _ _ (c .opened .ensures) (λ i. omega (arith, i .inside))
+returns c = filled-none _ _ _ (c .opened .ensures) (is-beyond _ _ (c .before .if1 .taken))
 
 opened-requires-2 : tie.Need-opened-requires-2
 opened-requires-2 c κs = search needs
 
 returns-2 : tie.Need-returns-2
-returns-2 c = filled-none _ _ _ (c .opened2 .ensures) (λ i. omega (arith, i .order))
+returns-2 c = filled-none _ _ _ (c .opened2 .ensures) (is-turned _ _ (c .before .if2 .taken))
 
 part-read-front-start : tie.Need-part-read-front-start
 part-read-front-start c = search needs
@@ -34,7 +41,9 @@ same-length : tie.Need-same-length
 same-length c = search needs
 
 returns-3 : tie.Need-returns-3
-returns-3 c = filled-same _ _ (record { order = omega arith; inside = omega arith })
+returns-3 c =
+    let f = c .before .before in
+    filled-same _ _ _ (inside f) (sym (f .read-front .ensures) ∙ c .enum-told .given .1)
 
 enum-told-2 : tie.Need-enum-told-2
 enum-told-2 c = search needs
@@ -49,7 +58,11 @@ same-length-2 : tie.Need-same-length-2
 same-length-2 c = search needs
 
 returns-4 : tie.Need-returns-4
-returns-4 c = filled-on _ _ _ _ _ _ (c .before .before .before .before .before .before .moved .ensures) (c .before .before .read-on .ensures)
+returns-4 c =
+    let n = c .before .before in
+    let m = n .before .before .before .before in
+    let f = m .before .before .before .before in
+    filled-on _ _ _ _ _ _ (inside f) (sym (f .read-front .ensures) ∙ m .before .before .enum-told2 .given .1) (m .moved .ensures) (n .read-on .ensures)
 
 pub fill-spec : {M : Type 1} → statement M
 fill-spec =

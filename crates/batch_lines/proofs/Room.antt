@@ -12,26 +12,26 @@ use lib.Seq.{length-take-le}
 use Rattle.slices.proofs.Tails.{laidAt}
 use Rattle.house.specs.Fields.{recordBytes}
 use Rattle.intake.specs.Feeding.{answerNumbers}
-use Rattle.lines.specs.Page.{Placed, Added, decimal, space, hexes, frontText}
-use Rattle.lines.proofs.Adding.{joined, all-with-room}
+use Rattle.lines.specs.Page.{Placed, textOf, Added, decimal, space, hexes, frontText}
+use Rattle.lines.proofs.Adding.{all-with-room}
 use Rattle.lines.proofs.Decimal.{digits-few}
 use Rattle.lines.proofs.Hexes.{hexes-long}
 use Rattle.batch_lines.specs.Lines.{nameText, numbersText, answerText}
 
-front-short : (n : ℕ) (l : List ℕ) → length (joined (frontText n l)) ≤ 1 + 2 * n
+front-short : (n : ℕ) (l : List ℕ) → length (textOf (frontText n l)) ≤ 1 + 2 * n
 unfolding frontText
 front-short n l = go (eqb n 0) (leb n (length l)) refl
   where
-    go : (b c : Bool) → leb n (length l) ≡ c → length (joined (cond b [] (cond c (space ∷ hexes (take n l)) []))) ≤ 1 + 2 * n
+    go : (b c : Bool) → leb n (length l) ≡ c → length (textOf (cond b [] (cond c (space ∷ hexes (take n l)) []))) ≤ 1 + 2 * n
     go true c e = omega arith
     go false false e = omega arith
     go false true e = let h : n ≤ length l = leb-true _ _ e in omega (arith, hexes-long (take n l), length-take-le n l h)
 
-answer-short : (number k : ℕ) (a output : List ℕ) → length (joined (answerText number k a output)) ≤ 169 + 2 * (recordBytes * getD a 5 0)
+answer-short : (number k : ℕ) (a output : List ℕ) → length (textOf (answerText number k a output)) ≤ 169 + 2 * (recordBytes * getD a 5 0)
 unfolding answerText
 answer-short number k a output = go (leb answerNumbers (length a))
   where
-    go : (b : Bool) → length (joined (cond b (nameText number k ++ (numbersText a ++ frontText (recordBytes * getD a 5 0) output)) [])) ≤ 169 + 2 * (recordBytes * getD a 5 0)
+    go : (b : Bool) → length (textOf (cond b (nameText number k ++ (numbersText a ++ frontText (recordBytes * getD a 5 0) output)) [])) ≤ 169 + 2 * (recordBytes * getD a 5 0)
     go false = omega arith
     go true =
         let d : (n : ℕ) → length (decimal n) ≤ 20 = digits-few 19 in
@@ -41,7 +41,7 @@ answer-short number k a output = go (leb answerNumbers (length a))
 -- a page with 169 bytes and two for each byte of the records has room for the line: it stands there whole
 pub answer-has-room : (number k : ℕ) (a output : List ℕ) (at next : ℕ) (before after : List ℕ) → Added (answerText number k a output) at next before after
     → at + 169 + 2 * (recordBytes * getD a 5 0) ≤ length before
-    → let text : List ℕ = joined (answerText number k a output) in (next ≡ at + length text) × (after ≡ laidAt before at text)
+    → let text : List ℕ = textOf (answerText number k a output) in (next ≡ at + length text) × (after ≡ laidAt before at text)
 answer-has-room number k a output at next before after h room =
     let e = h .all ∙ all-with-room (answerText number k a output) at before (omega (arith, answer-short number k a output)) in
     (ap (λ (p : Placed). p .at) e, ap (λ (p : Placed). p .page) e)

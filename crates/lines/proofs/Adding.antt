@@ -16,7 +16,7 @@ use Rattle.slices.specs.Writing.{laid, bytes, Writes, answered, left}
 use Rattle.slices.specs.declared.Written.{Written}
 use Rattle.slices.proofs.Laws.{given-room, given-none}
 use Rattle.slices.proofs.Tails.{laidAt, laid-length, laid-none, laid-next, put-back, tail-is}
-use Rattle.lines.specs.Page.{Placed, addTo, addAll, Added}
+use Rattle.lines.specs.Page.{Placed, addTo, addAll, textOf, Added}
 
 -- ---- one text
 
@@ -79,20 +79,15 @@ added-then {ss} {ts} {at} {m} {n} {b} {c} {d} h k =
       inside = λ i. omega (arith, k .inside (omega (arith, h .inside i, h .long)), h .long);
     }
 
--- all of them
-abbrev pub joined : List (List ℕ) → List ℕ
-joined [] = []
-joined (s ∷ ss) = s ++ joined ss
-
 -- where there is room for all, they stand one after the other
-pub all-with-room : (ss : List (List ℕ)) (at : ℕ) (d : List ℕ) → at + length (joined ss) ≤ length d
-    → addAll ss (record { at = at; page = d }) ≡ record { at = at + length (joined ss); page = laidAt d at (joined ss) }
+pub all-with-room : (ss : List (List ℕ)) (at : ℕ) (d : List ℕ) → at + length (textOf ss) ≤ length d
+    → addAll ss (record { at = at; page = d }) ≡ record { at = at + length (textOf ss); page = laidAt d at (textOf ss) }
 unfolding addAll addTo
 all-with-room [] at d h = λ i. record { at = sym (add-zero at) i; page = sym (laid-none d at) i }
 all-with-room (s ∷ ss) at d h =
-    let n = length-append s (joined ss) in
+    let n = length-append s (textOf ss) in
     let l = laid-length d s at (omega arith) in
-    let a : at + length s + length (joined ss) ≡ at + length (s ++ joined ss) = omega arith in
-    let o = laid-next d s (joined ss) at (length s) refl (omega arith) in
+    let a : at + length s + length (textOf ss) ≡ at + length (s ++ textOf ss) = omega arith in
+    let o = laid-next d s (textOf ss) at (length s) refl (omega arith) in
     let r : at + length s ≤ length d = omega arith in
     rw (le-leb _ _ r) (all-with-room ss (at + length s) (laidAt d at s) (omega arith) ∙ λ i. record { at = a i; page = o i })

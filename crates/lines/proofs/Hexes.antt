@@ -6,8 +6,7 @@ use mathlib.Core.List.{List, [], _∷_, _++_}
 use native.Mathlib.Omega.{arith}
 use lib.ListN.{length, getD, take}
 use lib.Seq.{take-suc}
-use Rattle.lines.specs.Page.{hexOf, hexes}
-use Rattle.lines.proofs.Adding.{joined}
+use Rattle.lines.specs.Page.{textOf, hexOf, hexes}
 
 hexes-append : (l m : List ℕ) → hexes (l ++ m) ≡ hexes l ++ hexes m
 unfolding hexes
@@ -19,7 +18,7 @@ pub hexes-next : (l : List ℕ) (i : ℕ) → i < length l → hexes (take (suc 
 unfolding hexes
 hexes-next l i h = rw (take-suc l i 0 h) (hexes-append (take i l) (getD l i 0 ∷ []))
 
-pub hexes-long : (l : List ℕ) → length (joined (hexes l)) ≡ 2 * length l
+pub hexes-long : (l : List ℕ) → length (textOf (hexes l)) ≡ 2 * length l
 unfolding hexes
 hexes-long [] = refl
 hexes-long (b ∷ l) = omega (arith, hexes-long l)

@@ -1,4 +1,5 @@
 pub mod Adding
 pub mod Decimal
 pub mod Hexes
+pub mod Printing
 pub mod Unique

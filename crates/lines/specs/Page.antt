@@ -28,12 +28,31 @@ unfoldable pub addAll : List (List ℕ) → Placed → Placed
 addAll [] p = p
 addAll (s ∷ ss) p = addAll ss (addTo s p)
 
+-- all of them, one behind the other
+abbrev pub textOf : List (List ℕ) → List ℕ
+textOf [] = []
+textOf (s ∷ ss) = s ++ textOf ss
+
 -- THE CONTRACT of every call that adds text
 pub record Added (ss : List (List ℕ)) (at next : ℕ) (before after : List ℕ) : Type 0 where
   pub all : record { at = next; page = after } ≡ addAll ss (record { at = at; page = before })
   -- what a caller needs: the page keeps its length, and a place within it stays so
   pub long : length after ≡ length before
   pub inside : at ≤ length before → next ≤ length before
+
+-- ---- texts that are printed, page by page
+
+-- the place to go on from where so many bytes are needed: this one, or the beginning of a page that was printed up to it
+unfoldable pub turnedTo : ℕ → ℕ → List ℕ → ℕ
+turnedTo need at page = cond (leb (at + need) (length page)) at 0
+
+-- THE CONTRACT of every call that adds a text whole, and prints the page before it where it has to: nothing is lost. What was printed, and what
+-- stands on the page now, is what stood there with the text behind it.
+pub record Prints (text : List ℕ) (at next : ℕ) (before after : List ℕ) : Type 0 where
+  pub printed : List ℕ
+  pub all : printed ++ take next after ≡ take at before ++ text
+  pub inside : next ≤ length after
+  pub long : length after ≡ length before
 
 -- ---- what is added
 

@@ -1,9 +1,9 @@
 // Lines of text on a lent page, so that a program writes many of them at once.
 use slices::Written;
 ghost use mathlib.Core.Path.{_≡_};
-ghost use Prim.Native.Nat.{_<_, _≤_};
+ghost use Prim.Native.Nat.{_<_};
 ghost use mathlib.Core.List.{[], _∷_};
-ghost use Rattle.lines.specs.Page.{Added, decimal, hexOf, hexes, space, cutWord, frontText, writtenText};
+ghost use Rattle.lines.specs.Page.{Added, turnedTo, decimal, hexOf, hexes, space, cutWord, frontText, writtenText};
 ghost use Rattle.io.specs.Digits.{glyph as glyphOf};
 
 // Adds text at a place of a page, and answers the place after it; where there is no room the page stays as it was.
@@ -122,12 +122,15 @@ pub fn write_out(page: &[u8], at: usize) -> usize
     0
 }
 
-// Writes a page out once it is half full, and answers the place to go on from.
-pub fn turn_over(page: &[u8], at: usize) -> usize
-    ensures { λ r. ⌜ r ≤ at ⌝ }
+// Writes a page out where so many bytes more have no room on it, and answers the place to go on from.
+pub fn turn_over(page: &[u8], at: usize, need: usize) -> usize
+    ensures { λ r. ⌜ r ≡ turnedTo need at (now (page .entry)) ⌝ }
 {
-    if at < page.len() / 2 {
-        return at;
+    if page.len() < at {
+        return 0;
     }
-    write_out(page, at)
+    if page.len() - at < need {
+        return write_out(page, at);
+    }
+    at
 }

@@ -9,8 +9,8 @@ use lib.Seq.{drop-drop}
 use Rattle.slices.specs.Writing.{laid}
 use Rattle.slices.proofs.Tails.{tail-is}
 use Rattle.intake.specs.Feeding.{answerNumbers}
-use Rattle.lines.specs.Page.{Placed, addAll, Added, decimal}
-use Rattle.lines.proofs.Adding.{joined, all-append, all-with-room}
+use Rattle.lines.specs.Page.{Placed, addAll, textOf, Added, decimal}
+use Rattle.lines.proofs.Adding.{all-append, all-with-room}
 use Rattle.lines.proofs.Decimal.{digits-few}
 use Rattle.report.specs.Report.{lineOf, linesOf}
 
@@ -67,7 +67,7 @@ underway-last first entries answers page₀ page at from number left u h =
 
 -- ---- how long
 
-lines-short : (number k : ℕ) (a : List ℕ) → length (joined (linesOf number k a)) ≤ 126 * k
+lines-short : (number k : ℕ) (a : List ℕ) → length (textOf (linesOf number k a)) ≤ 126 * k
 unfolding linesOf
 lines-short number zero a = omega arith
 lines-short number (suc k) a =
@@ -77,8 +77,8 @@ lines-short number (suc k) a =
 
 -- a page with 126 bytes for each has room for all the lines: they stand there, one after the other
 pub lines-have-room : (number k : ℕ) (a : List ℕ) (next : ℕ) (before after : List ℕ) → Added (linesOf number k a) 0 next before after → 126 * k ≤ length before
-    → let text : List ℕ = joined (linesOf number k a) in (next ≡ length text) × (after ≡ laid before text)
+    → let text : List ℕ = textOf (linesOf number k a) in (next ≡ length text) × (after ≡ laid before text)
 lines-have-room number k a next before after h room =
-    let text = joined (linesOf number k a) in
+    let text = textOf (linesOf number k a) in
     let e = h .all ∙ all-with-room (linesOf number k a) 0 before (omega (arith, lines-short number k a)) in
     (ap (λ (p : Placed). p .at) e ∙ omega arith, ap (λ (p : Placed). p .page) e)

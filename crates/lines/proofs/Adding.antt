@@ -2,7 +2,7 @@
 -- Assumes nothing.
 use Prim.Native.Nat.{ℕ, _+_, _-_, _≤_, _<_}
 use mathlib.Core.Path.{_≡_, refl, sym, ap, _∙_}
-use mathlib.Core.Bool.{Bool, true, false}
+use mathlib.Core.Bool.{Bool, true, false, cond}
 use mathlib.Core.List.{List, [], _∷_, _++_}
 use native.Mathlib.Nat.{add-zero}
 use native.Mathlib.Omega.{arith}
@@ -29,6 +29,15 @@ module _ (s : List ℕ) (at next : ℕ) (before after : List ℕ) where
   pub added-no : length before < at + length s → next ≡ at → after ≡ before → Added (s ∷ []) at next before after
   unfolding addAll addTo
   added-no h en ea = record { all = rw (lt-leb _ _ h) (λ i. record { at = en i; page = ea i }); long = ap length ea; inside = λ k. omega arith }
+
+-- what is added is as the definition says, whether there is room or not
+pub added-to : (s : List ℕ) (at : ℕ) (d : List ℕ) → let p : Placed = addTo s (record { at = at; page = d }) in Added (s ∷ []) at (p .at) d (p .page)
+unfolding addTo
+added-to s at d = go (leb (at + length s) (length d)) refl
+  where
+    go : (b : Bool) → leb (at + length s) (length d) ≡ b → let p : Placed = cond b (record { at = at + length s; page = laidAt d at s }) (record { at = at; page = d }) in Added (s ∷ []) at (p .at) d (p .page)
+    go true e = added-yes s at _ d _ (leb-true _ _ e) refl refl
+    go false e = added-no s at _ d _ (leb-false _ _ e) refl refl
 
 -- a place behind the page holds nothing, not even no text at all
 pub added-behind : (s : List ℕ) (at : ℕ) (d : List ℕ) → length d < at → Added (s ∷ []) at at d d

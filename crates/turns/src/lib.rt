@@ -2,7 +2,6 @@
 use feed::Next;
 use feed::Window;
 ghost use mathlib.Core.Path.{_≡_};
-ghost use lib.ListN.{length};
 ghost use Rattle.turns.specs.Turns.{begun, following, Turns, EndsLine};
 
 // Where a run stands: what is left of the input, where the page goes on, and the number of the entry.
@@ -40,43 +39,43 @@ fn after(number: u64) -> u64
     number
 }
 
-// The end of the input, with a last line where an entry is cut.
-fn finish(page: &mut [u8], stand: Stand, next: Next) {
-    if let Next::Cut = next {
-        let at = lines::add_cut(page, stand.at, stand.number);
-        lines::write_out(page, at);
-        return;
-    }
-    lines::write_out(page, stand.at);
-}
-
-// The next entry, with its number on the page.
-pub fn next_turn(space: &mut [u8], page: &mut [u8], stand: Stand) -> Turn
-    ensures { λ r. ⌜ Turns stand (length (now (space .exit))) (now (page .entry)) (now (page .exit)) r ⌝ }
+// The next entry, with its number on the page; at the end of the input all is printed, with a last line where an entry is cut. Lines have
+// at most so many bytes: the page is printed first where these have no room.
+pub fn next_turn(space: &mut [u8], page: &mut [u8], stand: Stand, most: usize) -> Turn
+    ensures { λ r. ⌜ Turns stand most (now (space .entry)) (now (space .exit)) (now (page .entry)) (now (page .exit)) r ⌝ }
 {
     let window = stand.window;
     let next = feed::next_entry(space, window);
-    let Next::Entry(from, n, rest) = next else {
-        finish(page, stand, next);
-        return Turn::Over;
-    };
-    let line = Stand {
-        window: rest,
-        at: lines::add_number(page, stand.at, stand.number),
-        number: stand.number,
-    };
-    Turn::Entry(from, from + n, line)
+    let place = lines::turn_over(page, stand.at, most);
+    match next {
+        Next::Entry(from, n, rest) => {
+            let line = Stand {
+                window: rest,
+                at: lines::add_number(page, place, stand.number),
+                number: stand.number,
+            };
+            Turn::Entry(from, from + n, line)
+        }
+        Next::Cut => {
+            let end = lines::add_cut(page, place, stand.number);
+            lines::write_out(page, end);
+            Turn::Over
+        }
+        Next::End => {
+            lines::write_out(page, place);
+            Turn::Over
+        }
+    }
 }
 
-// Ends the entry's line, which was written up to a place, and prints the page once it is half full.
+// Ends the entry's line, which was written up to a place.
 pub fn end_line(page: &mut [u8], stand: Stand, place: usize) -> Stand
     ensures { λ r. ⌜ EndsLine stand place (now (page .entry)) (now (page .exit)) r ⌝ }
 {
-    let at = lines::add_byte(page, place, b'\n');
     let window = stand.window;
     Stand {
         window: window,
-        at: lines::turn_over(page, at),
+        at: lines::add_byte(page, place, b'\n'),
         number: after(stand.number),
     }
 }

@@ -8,7 +8,7 @@ opened-requires : tie.Need-opened-requires
 opened-requires c κs = search needs
 
 returns : tie.Need-returns
-returns c = let w = c .opened .ensures in λ i. record { window = record { at = w .0 i; end = w .1 i }; at = 0; number = 1 }
+returns c = λ i. record { window = c .opened .ensures i; at = 0; number = 1 }
 
 pub begin-spec : {M : Type 1} → statement M
 begin-spec = tie.close (tie.spec opened-requires returns)

@@ -3,7 +3,7 @@
 use Prim.Native.Nat.{ℕ, _+_, _-_, _≤_, _<_}
 use mathlib.Core.Path.{_≡_, refl, sym, ap, _∙_}
 use mathlib.Core.Bool.{Bool, true, false, cond}
-use mathlib.Core.List.{List, [], _∷_, _++_}
+use mathlib.Core.List.{List, [], _∷_, _++_, append-assoc}
 use native.Mathlib.Nat.{add-zero}
 use native.Mathlib.Omega.{arith}
 use lib.Dec.{leb}
@@ -87,6 +87,10 @@ added-then {ss} {ts} {at} {m} {n} {b} {c} {d} h k =
       long = k .long ∙ h .long;
       inside = λ i. omega (arith, k .inside (omega (arith, h .inside i, h .long)), h .long);
     }
+
+pub text-append : (ss ts : List (List ℕ)) → textOf (ss ++ ts) ≡ textOf ss ++ textOf ts
+text-append [] ts = refl
+text-append (s ∷ ss) ts = ap (λ (l : List ℕ). s ++ l) (text-append ss ts) ∙ sym (append-assoc s (textOf ss) (textOf ts))
 
 -- where there is room for all, they stand one after the other
 pub all-with-room : (ss : List (List ℕ)) (at : ℕ) (d : List ℕ) → at + length (textOf ss) ≤ length d

@@ -4,6 +4,7 @@ use borrow.Author.Needs.{needs}
 use Prim.Native.Nat.{_-_}
 use mathlib.Core.Path.{_≡_, refl}
 use lib.ListN.{length}
+use Rattle.report.proofs.Lines.{enough-kept}
 use Rattle.histories.proofs.run.Statement.{statement}
 use Rattle.histories.proofs.run.Tie as tie
 
@@ -21,7 +22,9 @@ loop-holds : tie.Need-loop-holds Inv-loop μ-loop
 loop-holds c = (refl, refl, refl, refl)
 
 print-argument-requires : tie.Need-print-argument-requires Inv-loop μ-loop
-print-argument-requires c κs = search needs
+print-argument-requires c κs =
+    let l = c .before .before .before .before .before in
+    enough-kept (l .loop .inv) (l .before .before .before .before .before .before .pre)
 
 add-i : tie.Need-add-i Inv-loop μ-loop
 add-i c = search needs

@@ -1,107 +1,51 @@
--- `report::print_file` meets its contract, is safe and ends: the numbers rise to the last.
+-- `report::print_file` meets its contract: nothing is read before what is lent was looked at.
 -- Assumes nothing.
 use borrow.Author.Needs.{needs}
-use Prim.Native.Nat.{_-_, _*_, _^_, _≤_, _<_}
-use mathlib.Core.Path.{_≡_, refl}
-use native.Mathlib.Omega.{arith}
+use mathlib.Core.Path.{refl, sym, _∙_}
 use lib.ListN.{length}
-use Rattle.intake.specs.Feeding.{answerNumbers}
+use Rattle.report.proofs.Lines.{page-suffices}
 use Rattle.report.proofs.print_file.Statement.{statement}
 use Rattle.report.proofs.print_file.Tie as tie
 
-abbrev Inv-loop : tie.InvT-loop
-Inv-loop input space₀ answers₀ output₀ page₀ round₀ number₀ space answers output page round number =
-    (length space ≡ length space₀) × (length answers ≡ length answers₀) × (length output ≡ length output₀) × (length page ≡ length page₀) × (1 ≤ number)
+suffice-requires : tie.Need-suffice-requires
+suffice-requires c κs = search needs
 
-abbrev μ-loop : tie.MeasureT-loop
-μ-loop input space₀ answers₀ output₀ page₀ round₀ number₀ space answers output page round number =
-    4611686018427387904 - number
+print-entries-requires : tie.Need-print-entries-requires
+print-entries-requires c κs =
+    let t = c .before .before .before .before in
+    let a = t .before .before .before .before .before .before .args in
+    page-suffices (length (a .space .now)) (length (a .answers .now)) (length (a .output .now)) (length (a .page .now)) (sym (t .before .suffice .ensures) ∙ t .if1 .taken)
 
-short : (c : tie.At-loop Inv-loop μ-loop) → length (c .before .before .before .before .before .before .args .answers .now) * 4 < 2 ^ 64
-short c = let s = c .before .before .before .before .before .before in omega arith
-
--- the answers of a round lie within the list, which is no longer than any
-few : (c : tie.After-go-on Inv-loop μ-loop) → (answerNumbers * c .go-on .result .entries ≤ length (c .go-on .last .1 .1 .1 .0)) × (c .go-on .result .entries < 2 ^ 62)
-few c =
-    let p = c .before .before .before .before .before in
-    let h = c .go-on .ensures .fed .places in
-    (omega (arith, h, c .go-on .kept .1 .1 .1 .0), omega (arith, h, p .loop .inv .1, short p))
-
-begin-requires : tie.Need-begin-requires Inv-loop μ-loop
-begin-requires c κs = search needs
-
-loop-holds : tie.Need-loop-holds Inv-loop μ-loop
-loop-holds c = (refl, refl, refl, refl, omega arith)
-
-go-on-requires : tie.Need-go-on-requires Inv-loop μ-loop
-go-on-requires c κs = search needs
-
-print-end-requires : tie.Need-print-end-requires Inv-loop μ-loop
-print-end-requires c κs = search needs
-
-same-length : tie.Need-same-length Inv-loop μ-loop
+same-length : tie.Need-same-length
 same-length c = search needs
 
-same-length-2 : tie.Need-same-length-2 Inv-loop μ-loop
+same-length-2 : tie.Need-same-length-2
 same-length-2 c = search needs
 
-same-length-3 : tie.Need-same-length-3 Inv-loop μ-loop
+same-length-3 : tie.Need-same-length-3
 same-length-3 c = search needs
 
-same-length-4 : tie.Need-same-length-4 Inv-loop μ-loop
+same-length-4 : tie.Need-same-length-4
 same-length-4 c = search needs
 
-returns : tie.Need-returns Inv-loop μ-loop
-returns c = search needs
+returns : tie.Need-returns
+returns c =
+    let e = c .before .before .before .before .before .before .before .before in
+    let t = e .before .before .before .before .before in
+    record { by = rw (sym (t .before .suffice .ensures) ∙ t .if1 .taken) (e .print-entries .ensures) }
 
-print-lines-requires : tie.Need-print-lines-requires Inv-loop μ-loop
-print-lines-requires c κs = let g = c .before .before .before .before .before .before .before .before .before in (few g .0, omega (arith, few g .1, g .before .before .before .before .loop-test .taken))
-
-add-number : tie.Need-add-number Inv-loop μ-loop
-add-number c = let g = c .before .before .before .before .before .before .before .before .before .before .before .before in omega (arith, few g .1, g .before .before .before .before .loop-test .taken)
-
-loop-less : tie.Need-loop-less Inv-loop μ-loop
-loop-less c = search needs
-
-loop-again : tie.Need-loop-again Inv-loop μ-loop
-loop-again c = search needs
-
-same-length-5 : tie.Need-same-length-5 Inv-loop μ-loop
-same-length-5 c = search needs
-
-same-length-6 : tie.Need-same-length-6 Inv-loop μ-loop
-same-length-6 c = search needs
-
-same-length-7 : tie.Need-same-length-7 Inv-loop μ-loop
-same-length-7 c = search needs
-
-same-length-8 : tie.Need-same-length-8 Inv-loop μ-loop
-same-length-8 c = search needs
-
-returns-2 : tie.Need-returns-2 Inv-loop μ-loop
-returns-2 c = search needs
+returns-2 : tie.Need-returns-2
+returns-2 c = record { by = rw (sym (c .before .suffice .ensures) ∙ c .if1 .left) (refl, refl, refl, refl, refl) }
 
 pub print-file-spec : {M : Type 1} → statement M
 print-file-spec =
     tie.close
     (tie.spec
-    Inv-loop
-    μ-loop
-    begin-requires
-    loop-holds
-    go-on-requires
-    print-end-requires
+    suffice-requires
+    print-entries-requires
     same-length
     same-length-2
     same-length-3
     same-length-4
     returns
-    print-lines-requires
-    add-number
-    loop-less
-    loop-again
-    same-length-5
-    same-length-6
-    same-length-7
-    same-length-8
     returns-2)

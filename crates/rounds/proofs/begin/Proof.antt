@@ -11,7 +11,7 @@ opened-requires : tie.Need-opened-requires
 opened-requires c κs = search needs
 
 returns : tie.Need-returns
-returns c = let w = c .opened .ensures in λ i. record { receiver = c .before .fresh .ensures i; window = record { at = w .0 i; end = w .1 i }; entries = 0; records = 0 }
+returns c = λ i. record { receiver = c .before .fresh .ensures i; window = c .opened .ensures i; entries = 0; records = 0 }
 
 pub begin-spec : {M : Type 1} → statement M
 begin-spec = tie.close (tie.spec fresh-requires opened-requires returns)

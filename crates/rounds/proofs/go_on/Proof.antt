@@ -1,19 +1,13 @@
 -- `rounds::go_on` meets its contract: what is fed stands at the front of the window that was filled.
 -- Assumes nothing.
 use borrow.Author.Needs.{needs}
-use Prim.Native.Nat.{ℕ, _+_, _-_, _^_, _≤_, _<_}
-use mathlib.Core.Path.{_≡_, refl}
-use mathlib.Core.List.{List}
+use Prim.Native.Nat.{_+_, _^_, _≤_, _<_}
+use mathlib.Core.Path.{refl}
 use native.Mathlib.Omega.{arith}
-use lib.ListN.{length, drop, length-drop}
-use lib.Seq.{length-take-le}
-use Rattle.feed.specs.Within.{Inside, bytesIn}
-use Rattle.feed.specs.declared.Window.{Window}
+use lib.ListN.{length}
+use Rattle.feed.proofs.Handing.{window-long}
 use Rattle.rounds.proofs.go_on.Statement.{statement}
 use Rattle.rounds.proofs.go_on.Tie as tie
-
-window-long : (w : Window) (s : List ℕ) → Inside (length s) w → length (bytesIn w s) ≡ w .end - w .at
-window-long w s h = length-take-le (w .end - w .at) (drop (w .at) s) (omega (arith, h .inside, length-drop (w .at) s))
 
 short : (c : tie.Start) → length (c .args .space .now) < 2 ^ 64
 short c = omega arith

@@ -1,7 +1,7 @@
 """Writes the corpora of 'batch'.
 
 OUTDIR/stdin and stdout: one long use of a receiver with maxTouchContacts 10 and
-ready flags 0; the file ends inside an entry.
+ready flags 0; the file ends whole.
 OUTDIR/more/NAME.batch and .stdout: other settings, since a receiver takes only
 one client ready, and other ends of a file.
 """
@@ -579,7 +579,7 @@ def more_inputs():
 def main():
     directory = corpus.output_directory()
     host = main_batches()
-    stdin = host.input(corpus.cut_entry(batches.entry(AMPLE, 1, entries.join([LIFT]))[:-1]))
+    stdin = host.input()
     texts = [programs.batch(stdin)]
     corpus.write_files(directory, {"stdin": stdin, "stdout": texts[0]})
     corpus.report(f"stdin {len(stdin)} bytes, stdout {len(texts[0])} bytes")

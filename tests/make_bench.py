@@ -551,7 +551,7 @@ def write_more(directory, name, stdin):
 def main():
     directory = corpus.output_directory()
     history = main_history()
-    stdin = corpus.joined(history.entries, corpus.cut_entry(touch(0, [frame()])))
+    stdin = corpus.joined(history.entries)
     stdout, records = programs.bench_and_records(stdin)
     corpus.write_files(directory, {"stdin": stdin, "stdout": stdout, "records.stdout": records})
     corpus.report("main history, maxTouchContacts 10, flags 0")

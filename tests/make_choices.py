@@ -1,4 +1,4 @@
-"""Writes OUTDIR/stdin and OUTDIR/stdout for the program 'choices'. The file ends inside an entry."""
+"""Writes OUTDIR/stdin and OUTDIR/stdout for the program 'choices'. The file ends whole."""
 
 import itertools
 import random
@@ -784,19 +784,13 @@ def all_calls():
     return desk
 
 
-def input_of(desk):
-    """The last entry would choose if its length were right."""
-    last = choose(*tap(A), room=AMPLE)
-    return desk.input(corpus.cut_entry(last[:-1]))
-
-
 def main():
     directory = corpus.output_directory()
     desk = all_calls()
-    stdin = input_of(desk)
+    stdin = desk.input()
     stdout = programs.choices(stdin)
     corpus.write_files(directory, {"stdin": stdin, "stdout": stdout})
-    corpus.report(f"stdin {len(stdin)} bytes, stdout {len(stdout)} bytes, entries {len(desk.entries)} and one cut")
+    corpus.report(f"stdin {len(stdin)} bytes, stdout {len(stdout)} bytes, entries {len(desk.entries)}")
     desk.coverage.report()
 
 

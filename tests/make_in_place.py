@@ -43,7 +43,7 @@ def history():
 def main():
     directory = corpus.output_directory()
     sent = history()
-    stdin = corpus.joined(sent.entries, corpus.cut_entry(corpus.dismiss(1)))
+    stdin = corpus.joined(sent.entries)
     stdout = programs.in_place(stdin)
     corpus.write_files(directory, {"stdin": stdin, "stdout": stdout * 2})
     corpus.report_refusals(stdout)

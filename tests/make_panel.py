@@ -473,7 +473,12 @@ def ready_again(calls):
 
 
 def input_of(calls):
-    """The last entry would be a good one if its length were."""
+    """The kept files end whole."""
+    return corpus.joined(calls.entries)
+
+
+def cut_input_of(calls):
+    """The last entry would be a good one if its length were; the files to be run by hand end so."""
     return corpus.joined(calls.entries, corpus.cut_entry(touch(frame())))
 
 
@@ -518,7 +523,7 @@ def main():
     for most in WIDE_MOST:
         calls = wide_calls(most)
         calls.report(f"wide, most {most}")
-        write_wide(directory, most, input_of(calls))
+        write_wide(directory, most, cut_input_of(calls))
 
 
 if __name__ == "__main__":

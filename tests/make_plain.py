@@ -486,15 +486,10 @@ def all_messages():
     yield from random_wide(random.Random(SEED + 2))
 
 
-def input_of(payloads):
-    """The last entry is cut inside its two length bytes."""
-    return corpus.joined(payloads, b"\x00")
-
-
 def main():
     directory = corpus.output_directory()
     payloads = list(all_messages())
-    stdin = input_of(payloads)
+    stdin = corpus.joined(payloads)
     stdout = programs.plain(stdin)
     corpus.write_files(directory, {"stdin": stdin, "stdout": stdout})
     corpus.report_refusals(stdout)

@@ -451,7 +451,7 @@ def figures(payloads, text):
         shape = payload[:1].decode("latin1") if payload[:1] in programs.VECTOR_LINES else "other"
         key = (shape, outcome(shape, line.split(" ")[1:]))
         counts[key] = counts.get(key, 0) + 1
-    corpus.report(f"lines {len(text.splitlines())}, the last one cut")
+    corpus.report(f"lines {len(text.splitlines())}")
     for (shape, result), count in sorted(counts.items()):
         corpus.report(f"  {shape:6} {result:12} {count}")
 
@@ -467,7 +467,7 @@ def outcome(shape, words):
 def main():
     directory = corpus.output_directory()
     payloads = all_payloads()
-    stdin = corpus.joined(payloads, corpus.cut_entry(write_payload(U2, 1, 4)[:-1]))
+    stdin = corpus.joined(payloads)
     stdout = programs.vectors(stdin)
     corpus.write_files(directory, {"stdin": stdin, "stdout": stdout})
     figures(payloads, stdout)

@@ -255,8 +255,7 @@ def all_payloads():
 def main():
     directory = corpus.output_directory()
     payloads = list(all_payloads())
-    # The last entry has its two length bytes and nothing else.
-    stdin = corpus.joined(payloads, corpus.cut_entry(b"", 25))
+    stdin = corpus.joined(payloads)
     stdout = programs.writer(stdin)
     corpus.write_files(directory, {"stdin": stdin, "stdout": stdout})
     corpus.report_refusals(stdout)

@@ -2,6 +2,7 @@
 
 import random
 import sys
+from pathlib import Path
 
 import corpus
 import eras
@@ -11,12 +12,13 @@ import make_bench
 import make_choices
 import make_panel
 import make_plain
+import make_rooms
 import padded_play
 import panels
 import wide_play
 from corpus import contact, frame
 from histories import History
-from reference import entries, house, integers, label, messages, old_heads, panel, programs, receiver
+from reference import entries, house, integers, label, messages, old_heads, panel, programs, receiver, rooms
 from reference.batch import Batch, receive_all
 from reference.integers import S2, S4, U2, U4, U8
 from reference.label import Choice, Chosen, Label, choose
@@ -1378,6 +1380,229 @@ def check_marks(rng):
         same("place", label.button_at(lent, x, y), inside(contact(1, 0x19, x, y), lent))
 
 
+# Just enough room and a byte less: a file with its bytes written out, and what 'rooms' prints for it.
+
+PADDED_LIFT = "03 00 12 00 00 00 00 01 01 00 01 00 80 00 64 40 32 04"
+SMALL_HOVER = "03 00 0F 00 00 00 05 01 01 00 02 00 00 00 0A"
+DOWN_HEX, LIFT_HEX = (bytes.fromhex(HEAD + record).hex() for record in (DOWN_RECORD, LIFT_RECORD))
+HOVER_RECORD = "4A 00 40" + " 00" * 18
+CANCEL_RECORD = f"A4{DOWN_RECORD[2:]}"
+
+
+def two_rooms(name, zeros, numbers, output):
+    """A byte too little: 13, with so many zeros and the output kept; then just enough."""
+    enough = len(bytes.fromhex(output))
+    return (
+        f"{name} {enough - 1} 13{' 0' * zeros} kept",
+        f"{name} {enough} {numbers} {bytes.fromhex(output).hex()}",
+    )
+
+
+def written_in(name, output):
+    return two_rooms(name, 1, f"0 {len(bytes.fromhex(output))}", output)
+
+
+def not_touch(number):
+    return (f"plain 0 {number} 0 0 kept", f"strict 0 {number} 0 0 kept")
+
+
+ROOMS_FILE = (
+    ("", ("receive 0 1 0 0 0 0 0 kept", *not_touch(1))),
+    ("04 00 06 00 00", ("receive 0 1 0 0 0 0 0 kept", *not_touch(1))),
+    ("04 00 06 00 00 00", (
+        "receive 0 3 0 0 0 0 0 kept", *not_touch(3),
+        "header 5 13 0 kept", "header 6 0 6 040006000000",
+        "suspend 5 13 0 kept", "suspend 6 0 6 040006000000",
+    )),
+    ("04 00 07 00 00 00 00", (
+        "receive 0 3 0 0 0 0 0 kept", *not_touch(3), "header 5 13 0 kept", "header 6 0 6 040007000000",
+    )),
+    (BENCH_ENTRIES[0], (
+        "receive 0 0 0 0 0 0 0", *not_touch(3),
+        "header 5 13 0 kept", "header 6 0 6 020010000000",
+        "client_ready 15 13 0 kept", "client_ready 16 0 16 02001000000000000000010001000a00",
+    )),
+    ("03 00 08 00 00 00 3F 00", (
+        "receive 0 0 0 0 0 63 0", "plain 0 0 63 0", "strict 0 0 63 0",
+        "header 5 13 0 kept", "header 6 0 6 030008000000",
+        "touch 7 13 0 kept", "touch 8 0 8 0300080000003f00",
+    )),
+    # The first frame's offset is 1.
+    ("03 00 0A 00 00 00 00 01 00 01", (
+        "receive 0 11 0 0 0 0 0 kept",
+        "plain 20 13 0 0 kept", f"plain 21 0 0 1 000000000000000008{'00' * 12}",
+        "strict 20 13 0 0 kept", f"strict 21 0 0 1 000000000000000008{'00' * 12}",
+        "header 5 13 0 kept", "header 6 0 6 03000a000000",
+        "touch 9 13 0 kept", "touch 10 0 10 03000a00000000010001",
+    )),
+    (BENCH_ENTRIES[1], (
+        "receive 41 13 0 0 0 0 0 kept", f"receive 42 0 1 0 0 0 2 {DOWN_HEX}",
+        "plain 41 13 0 0 kept", f"plain 42 0 0 2 {DOWN_HEX}",
+        "strict 41 13 0 0 kept", f"strict 42 0 0 2 {DOWN_HEX}",
+        "header 5 13 0 kept", "header 6 0 6 030011000000",
+        "touch 16 13 0 kept", "touch 17 0 17 0300110000000001010001004064403219",
+    )),
+    (PADDED_LIFT, (
+        "receive 41 13 0 0 0 0 0 kept", f"receive 42 0 1 0 0 0 2 {LIFT_HEX}",
+        "plain 41 13 0 0 kept", f"plain 42 0 0 2 {LIFT_HEX}",
+        "strict 0 6 0 0 kept",
+        "header 5 13 0 kept", "header 6 0 6 030012000000",
+        "touch 16 13 0 kept", "touch 17 0 17 0300110000000001010001004064403204",
+    )),
+    (BENCH_ENTRIES[1], (
+        *two_rooms("receive", 5, "0 1 0 0 0 2", HEAD + DOWN_RECORD),
+        *two_rooms("plain", 2, "0 0 2", HEAD + DOWN_RECORD), *two_rooms("strict", 2, "0 0 2", HEAD + DOWN_RECORD),
+        *written_in("header", BENCH_ENTRIES[1][:17]), *written_in("touch", BENCH_ENTRIES[1]),
+    )),
+    # The same once more is a cancel.
+    (BENCH_ENTRIES[1], (
+        *two_rooms("receive", 5, "0 0 0 1 0 1", CANCEL_RECORD),
+        *two_rooms("plain", 2, "0 0 2", HEAD + DOWN_RECORD), *two_rooms("strict", 2, "0 0 2", HEAD + DOWN_RECORD),
+        *written_in("header", BENCH_ENTRIES[1][:17]), *written_in("touch", BENCH_ENTRIES[1]),
+    )),
+    (SMALL_HOVER, (
+        *two_rooms("receive", 5, "0 1 0 0 5 2", HEAD + HOVER_RECORD),
+        *two_rooms("plain", 2, "0 5 2", HEAD + HOVER_RECORD), *two_rooms("strict", 2, "0 5 2", HEAD + HOVER_RECORD),
+        *written_in("header", SMALL_HOVER[:17]), *written_in("touch", SMALL_HOVER),
+    )),
+    ("06 00 07 00 00 00 02", (
+        *two_rooms("receive", 5, "0 0 0 0 0 1", "C2 00 40" + " 00" * 18), *not_touch(3),
+        *written_in("header", "06 00 07 00 00 00"), *written_in("dismiss", "06 00 07 00 00 00 02"),
+    )),
+    ("06 00 07 00 00 00 02", (
+        "receive 0 0 0 0 0 0 0", *not_touch(3),
+        *written_in("header", "06 00 07 00 00 00"), *written_in("dismiss", "06 00 07 00 00 00 02"),
+    )),
+    ("01 00 0A 00 00 00 00 00 01 00", (
+        "receive 0 3 0 0 0 0 0 kept", *not_touch(3),
+        *written_in("header", "01 00 0A 00 00 00"), *written_in("server_ready", "01 00 0A 00 00 00 00 00 01 00"),
+    )),
+    ("05 00 06 00 00 00", (
+        "receive 0 3 0 0 0 0 0 kept", *not_touch(3),
+        *written_in("header", "05 00 06 00 00 00"), *written_in("resume", "05 00 06 00 00 00"),
+    )),
+    ("FF FE FD FC FB FA", ("receive 0 3 0 0 0 0 0 kept", *not_touch(3), *written_in("header", "FF FE FD FC FB FA"))),
+    (f"03 00 01 10 00 00 {'00' * 4091}", (
+        "receive 0 2 0 0 0 0 0 kept", *not_touch(2), *written_in("header", "03 00 01 10 00 00"),
+    )),
+)
+
+
+def check_rooms_file():
+    data = entries.join(bytes.fromhex(text) for text, _ in ROOMS_FILE)
+    want = "".join(f"{number} {line}\n" for number, (_, texts) in enumerate(ROOMS_FILE, 1) for line in texts)
+    for have, line in zip(rooms.rooms(data).splitlines(), want.splitlines()):
+        same("rooms line", have, line)
+    same("rooms file", rooms.rooms(data), want)
+    same("rooms file cut", rooms.rooms(data + b"\0\6\4\0\6\0\0"), want + f"{len(ROOMS_FILE) + 1} cut\n")
+    same("no rooms file", rooms.rooms(b""), "")
+    same("changed", rooms.Lent("plain", (13, 0, 0), b"\xee\0").line(), "plain 2 13 0 0 changed")
+
+
+def check_rooms_corpus(rng):
+    """What was lent just enough is what the other programs print and write; any room below that is too little."""
+    data = input_of("rooms")
+    messages_there = make_rooms.history().entries
+    same("rooms stdin", data, entries.join(messages_there))
+    same("rooms stdout", (CRATES / "rooms" / "stdout").read_text(), rooms.rooms(data))
+    calls = list(rooms.lent_calls(data))
+    # The last line of each call is the one with enough room.
+    answers = [{call.name: call for call in each} for each in calls]
+    bench, records = programs.bench_and_records(data)
+    received = [each["receive"] for each in answers]
+    # 'bench' prints no encode time.
+    have = [" ".join(map(str, (n, *call.numbers[:4], call.numbers[5]))) for n, call in enumerate(received, 1)]
+    same("rooms and bench", have, bench.splitlines())
+    same("rooms and records", b"".join(call.output for call in received if not call.refusal), records)
+    for name, program in (("plain", programs.plain), ("strict", programs.strict)):
+        have = [" ".join(map(str, (number, *each[name].numbers))) for number, each in enumerate(answers, 1)]
+        same(f"rooms and {name}", have, [" ".join(line.split(" ")[:4]) for line in program(data).splitlines()])
+    keeper = receiver.Receiver()
+    for message, each in zip(messages_there, answers):
+        check_room_writers(message, each)
+        keeper = check_less_room(rng, keeper, message, each["receive"].room)
+
+
+def check_room_writers(message, answers):
+    """What stands at the front, and the message itself: in its shortest form where it is padded."""
+    if len(message) >= 6:
+        same(f"{message.hex()} header", answers["header"].output, message[:6])
+    same(f"{message.hex()} touch", "touch" in answers, not answers["plain"].refusal)
+    if "touch" in answers:
+        same(f"{message.hex()} written", answers["touch"].output, shortest(message))
+        same(f"{message.hex()} its own", answers["touch"].output == message, not answers["strict"].refusal)
+    # The others have but one form.
+    others = [each for each in answers if each not in ("receive", "plain", "strict", "header", "touch")]
+    for name in others:
+        same(f"{message.hex()} {name}", (answers[name].output, len(others)), (message, 1))
+
+
+def check_less_room(rng, keeper, message, enough):
+    """The receiver after a message; with any less room it is the one before, and so is the output."""
+    for room in sorted({0, rng.randrange(enough), enough - 1}) if enough else ():
+        output = lent_output(room)
+        same(f"{message.hex()} in {room}", receiver.receive(keeper, message, output), (keeper, receiver.Answer(13)))
+        same(f"{message.hex()} in {room} kept", output, lent_output(room))
+    return receiver.receive(keeper, message, bytearray(enough))[0]
+
+
+# How the kept corpora end: inside an entry, so that a program prints 'cut' last, or with a whole one.
+
+CRATES = Path(__file__).resolve().parent.parent / "crates"
+
+WHOLE = (
+    "batch",
+    "bench",
+    "choices",
+    "in_place",
+    "panel",
+    "plain",
+    "records",
+    "rooms",
+    "sent",
+    "vectors",
+    "writer",
+)
+CUT = ("strict",)
+CUT_HISTORIES = (
+    "example-cut.bench",
+    "example-half-length.bench",
+    "example-length-only.bench",
+    "example-long-cut.bench",
+    "half-length-only.bench",
+)
+
+
+def check_ends():
+    for name in WHOLE + CUT:
+        stdin, stdout = ((CRATES / name / each).read_bytes() for each in ("stdin", "stdout"))
+        payloads, cut = entries.split(stdin)
+        same(f"{name} is cut", cut, name in CUT)
+        same(f"{name} has a cut line", any(map(says_cut, stdout.splitlines())), name in CUT)
+        if cut:
+            same(f"{name} ends", stdout.splitlines()[-1], b"%d cut" % (len(payloads) + 1))
+    same("the input of strict", input_of("strict"), input_of("plain") + b"\0")
+    same("the input of records", input_of("records"), input_of("bench"))
+    check_ends_of_histories()
+
+
+def input_of(name):
+    return (CRATES / name / "stdin").read_bytes()
+
+
+def says_cut(line):
+    return line.endswith(b" cut")
+
+
+def check_ends_of_histories():
+    names = (CRATES / "histories" / "args").read_text().split()
+    data = {name: (CRATES / "histories" / "data" / name).read_bytes() for name in names}
+    same("cut histories", [name for name in names if entries.split(data[name])[1]], list(CUT_HISTORIES))
+    same("whole histories", len(names) > len(CUT_HISTORIES), True)
+    want = "".join(f"{name}\n{programs.bench(data[name])}" for name in names)
+    same("histories", (CRATES / "histories" / "stdout").read_text(), want)
+
+
 def main():
     rng = random.Random(SEED)
     check_integers()
@@ -1418,6 +1643,9 @@ def main():
     check_choices_file()
     check_choice_laws(rng)
     check_marks(rng)
+    check_rooms_file()
+    check_rooms_corpus(rng)
+    check_ends()
     for difference in differences:
         print(difference)
     print("differences", len(differences))

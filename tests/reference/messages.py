@@ -233,9 +233,17 @@ def plain_by(read, message, output):
 # Writing
 
 
+def header_bytes(event, pdu_length):
+    return event.to_bytes(2, "little") + pdu_length.to_bytes(4, "little")
+
+
+def write_header(out, event, pdu_length):
+    """A header by itself, of any event and any length: checks 13 alone."""
+    return written(out, lambda: header_bytes(event, pdu_length))
+
+
 def message_of(event, body):
-    length = HEADER_LENGTH + len(body)
-    return event.to_bytes(2, "little") + length.to_bytes(4, "little") + body
+    return header_bytes(event, HEADER_LENGTH + len(body)) + body
 
 
 def write_server_ready(out, protocol_version):

@@ -14,28 +14,28 @@ pub const ILLEGAL: u8 = 3;
 
 // Three entries for each flag value: from out of range, from hovering, from engaged.
 const NEXT: [u8; 24] = [
-    HOVERING,
-    HOVERING,
-    ILLEGAL,
-    ENGAGED,
-    ENGAGED,
-    ILLEGAL,
-    ILLEGAL,
-    ILLEGAL,
-    ENGAGED,
-    ILLEGAL,
-    ILLEGAL,
+    HOVERING, // 0x0A
     HOVERING,
     ILLEGAL,
+    ENGAGED, // 0x19
+    ENGAGED,
+    ILLEGAL,
+    ILLEGAL, // 0x1A
+    ILLEGAL,
+    ENGAGED,
+    ILLEGAL, // 0x0C
+    ILLEGAL,
+    HOVERING,
+    ILLEGAL, // 0x04
     ILLEGAL,
     OUT,
-    ILLEGAL,
-    ILLEGAL,
-    OUT,
+    ILLEGAL, // 0x24
     ILLEGAL,
     OUT,
+    ILLEGAL, // 0x02
+    OUT,
     ILLEGAL,
-    ILLEGAL,
+    ILLEGAL, // 0x22
     OUT,
     ILLEGAL,
 ];

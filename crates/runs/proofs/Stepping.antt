@@ -21,15 +21,16 @@ use Rattle.touch.specs.Touch.{contact}
 use Rattle.frame_records.proofs.Laws.{frame-is, length-frame}
 use Rattle.machine.specs.Rules.{Rules}
 use Rattle.machine.specs.Table.{Table}
+use Rattle.machine.specs.Conforms.{every}
 use Rattle.machine.specs.Held.{activeIds}
 use Rattle.machine.specs.Machine.{Machine, Arrays, isJudged, verdictBy, Counts, plus, countOf, Verdict, injected, ignored, cancelled, verdict}
 use Rattle.contacts.specs.Touch.{touchView, touchRules}
-use Rattle.contacts.specs.Ruling.{contactsOf, tableFrom, rulingOf, unread, Counted, Decides}
+use Rattle.contacts.specs.Ruling.{contactsOf, ofRead, tableFrom, rulingOf, unread, Counted, judgedFrom, rulingBy}
 use Rattle.contacts.specs.declared.Ruling.{Ruling}
 use Rattle.contacts.specs.declared.Ruling.the-variants as Ruling
-use Rattle.machine.proofs.Conforms.{after-long}
+use Rattle.machine.proofs.Conforms.{inTable, after-long}
 use Rattle.machine.proofs.Machine.{injected-machine, injected-bytes, ignored-machine, ignored-bytes, cancelled-machine, cancelled-bytes, cancels-length}
-use Rattle.contacts.proofs.Judgement.{ruled-injected, ruled-ignored, ruled-cancelled, counted-resting}
+use Rattle.contacts.proofs.Judgement.{ruled-as-the-rules-say, ruled-injected, ruled-ignored, ruled-cancelled, counted-resting}
 use Rattle.moves.proofs.Moving.{applies-after}
 use Rattle.openings.specs.Openings.{judgedAmong, Lists}
 use Rattle.openings.proofs.Listed.{listed-after}
@@ -63,14 +64,18 @@ counted-as rules m cs a b v e h = rw e h
 
 -- ---- a frame is judged as the machine judges it
 
-pub ruled-on : (rules : Rules Contact) (m : Machine) (active : ℕ) (x : Got (List Contact)) (judged : Bool) (r : Ruling)
-    → judged ≡ judgedAmong (m .running) (m .held) x → Decides judged rules (m .table) active x r → RulesOn rules m active x r
-ruled-on rules m active (got cs t) judged r e d n = d n ∙ ap (λ (b : Bool). rulingOf b rules (m .table) cs) e
-ruled-on rules m active (bad x) judged r e d n = d n ∙ ap unread (e ∙ as-running (m .running))
+pub ruled-on : (most : ℕ) (m : Machine) (active : ℕ) (x : Got (List Contact)) (judged : Bool) (r : Ruling) → ofRead true (every (inTable touchView)) x ≡ true
+    → judged ≡ judgedAmong (m .running) (m .held) x → r ≡ rulingBy judged (judgedFrom most active (m .table) x) → RulesOn (touchRules most) m active x r
+ruled-on most m active x judged r i e d n = d ∙ ruled-as-the-rules-say most (m .table .states) (m .table .xs) (m .table .ys) active n judged x i ∙ go x e
   where
     as-running : (b : Bool) → cond b true false ≡ b
     as-running true = refl
     as-running false = refl
+
+    go : (x : Got (List Contact)) → judged ≡ judgedAmong (m .running) (m .held) x
+        → ofRead (unread judged) (rulingOf judged (touchRules most) (m .table)) x ≡ ofRead (unread (m .running)) (λ cs. rulingOf (isJudged touchView m cs) (touchRules most) (m .table) cs) x
+    go (got cs t) e = ap (λ (b : Bool). rulingOf b (touchRules most) (m .table) cs) e
+    go (bad y) e = ap unread (e ∙ as-running (m .running))
 
 -- a frame's contacts, listed beside those who were active
 pub lists-active : (n : ℕ) (l : List ℕ) (end : ℕ) (t : Table) (marks after : List ℕ) → marks ≡ activeIds (tableFrom (t .states) [] []) → Lists n l end marks after

@@ -1,6 +1,7 @@
 -- `runs::step::ruling_on` meets its contract.
 -- Assumes nothing.
 use borrow.Author.Needs.{needs}
+use mathlib.Core.Bool.{false}
 use Rattle.contacts.specs.Ruling.{contactsOf, arraysFrom}
 use Rattle.contacts.proofs.Reading.{read-ids}
 use Rattle.runs.specs.Runs.{machineIn}

@@ -50,17 +50,17 @@ records-none = refl
 
 -- ---- lengths
 
-pub length-contacts : (cs : List Contact) → length (contactsBytes touchRecord cs) ≡ 21 * length cs
+length-contacts : (cs : List Contact) → length (contactsBytes touchRecord cs) ≡ 21 * length cs
 unfolding contactsBytes
 length-contacts [] = refl
 length-contacts (c ∷ cs) = rw (length-append, length-contact touched c, length-contacts cs) (omega arith)
 
 -- of n contacts that were read
-pub length-read : (n : ℕ) (l : List ℕ) (cs : List Contact) (t : List ℕ) → times n (contact taken) .read l ≡ got cs t → length (contactsBytes touchRecord cs) ≡ 21 * n
+length-read : (n : ℕ) (l : List ℕ) (cs : List Contact) (t : List ℕ) → times n (contact taken) .read l ≡ got cs t → length (contactsBytes touchRecord cs) ≡ 21 * n
 length-read n l cs t e = length-contacts cs ∙ ap (λ (k : ℕ). 21 * k) (series-length (λ b. contact taken) false n l cs t e)
 
 -- of a head and its contacts that were read
-pub length-written : (h : Head) (l : List ℕ) (cs : List Contact) (t : List ℕ) → times (h .count) (contact taken) .read l ≡ got cs t → length (headBytes h ++ contactsBytes touchRecord cs) ≡ 21 * (h .count + 1)
+length-written : (h : Head) (l : List ℕ) (cs : List Contact) (t : List ℕ) → times (h .count) (contact taken) .read l ≡ got cs t → length (headBytes h ++ contactsBytes touchRecord cs) ≡ 21 * (h .count + 1)
 length-written h l cs t e = rw (length-append, length-head h, length-read (h .count) l cs t e) (omega arith)
 
 pub length-frame : (f : Frame Contact) → length (frameBytes touchRecord f) ≡ 21 * (length (f .contacts) + 1)

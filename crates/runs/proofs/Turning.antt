@@ -1,7 +1,7 @@
 -- A frame whose contacts can be read, where the number of active contacts is the table's: what its ruling leaves is what the machine makes of it.
 -- Assumes nothing.
 use Prim.Native.Nat.{ℕ, _+_, _*_}
-use mathlib.Core.Path.{_≡_, refl, sym, ap, subst, _∙_}
+use mathlib.Core.Path.{_≡_, refl, sym, ap, _∙_}
 use mathlib.Core.Bool.{Bool, true, false}
 use mathlib.Core.List.{List, _++_}
 use native.Mathlib.Omega.{arith}
@@ -9,7 +9,7 @@ use native.Mathlib.Nat.{add-zero}
 use lib.ListN.{length}
 use Rattle.digits.specs.Digits.{Bytes}
 use Rattle.slices.specs.Writing.{Draft, bytes, given, left}
-use Rattle.formats.specs.Format.{Got, got}
+use Rattle.formats.specs.Format.{got}
 use Rattle.fields.specs.Integers.{taken}
 use Rattle.house.specs.Layout.{headBytes}
 use Rattle.house.specs.Fields.{recordBytes}
@@ -18,7 +18,6 @@ use Rattle.house.specs.declared.Contact.{Contact}
 use Rattle.house.proofs.Round.{length-contact}
 use Rattle.framing.specs.Frame.{Frame, headOf, contactsBytes, frameBytes}
 use Rattle.touch.specs.Touch.{contact, touchRecord}
-use Rattle.frame_records.specs.Frames.{frameDraft}
 use Rattle.frame_records.proofs.Laws.{frame-is, length-frame, drafted-whole}
 use Rattle.machine.specs.Rules.{Rules}
 use Rattle.machine.specs.Conforms.{every}

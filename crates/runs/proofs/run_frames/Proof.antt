@@ -117,17 +117,21 @@ pass-requires c κs =
     let p = s .before .before .before .before .before .before .before .before .before .before .before .before in
     (omega (arith, o .out .given .1, p .loop .inv .1), omega (arith, s .step .ensures .small))
 
+-- where the tail came back that was lent to a step
+abbrev returned : tie.After-struct-known3 Inv-loop μ-loop → tie.After-out Inv-loop μ-loop
+returned c = c .before .before .before .before .before
+
 add-at-2 : tie.Need-add-at-2 Inv-loop μ-loop
 add-at-2 c =
-    let s = c .before .before .before .before .before .before in
+    let s = returned c .before in
     let k = s .before .before .before .before .before .before .before in
     omega (arith, begins k, ends s, short (k .before .before .before .before .before .before))
 
 -- a frame was left
 turning : (c : tie.After-struct-known3 Inv-loop μ-loop) →
-    let p = c .before .before .before .before .before .before .before .before .before .before .before .before .before .before .before .before .before .before in
+    let p = returned c .before .before .before .before .before .before .before .before .before .before .before .before .before in
     0 < p .loop .left
-turning c = c .before .before .before .before .before .before .before .before .before .before .before .before .before .before .before .before .before .loop-test .taken
+turning c = returned c .before .before .before .before .before .before .before .before .before .before .before .before .loop-test .taken
 
 sub-left : tie.Need-sub-left Inv-loop μ-loop
 sub-left c = omega (arith, turning c)
@@ -137,14 +141,14 @@ loop-less c = omega (arith, turning c)
 
 loop-again : tie.Need-loop-again Inv-loop μ-loop
 loop-again c =
-    let s = c .before .before .before .before .before .before in
+    let s = returned c .before in
     let d = s .before .before .before .before .before .before .before .before in
     let f = d .before in
     let i = f .before .before in
     let p = i .before in
     let a = p .before .before .before .before .args in
     let b = s .step .ensures in
-    let g = c .before .before .before .before .before .out .given .1 in (
+    let g = returned c .out .given .1 in (
       ends s,
       c .before .pass .ensures .inside,
       g ∙ p .loop .inv .2,

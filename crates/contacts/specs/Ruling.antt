@@ -119,6 +119,7 @@ unread judged = cond judged Ruling.Cancelled Ruling.Ignored
 unfoldable pub settled : ℕ → ℕ → Survey → Judged
 settled most active v = cond (v .lawful) (cond (leb (v .gone) (active + v .came)) (judgedAs most (active + v .came - v .gone)) refused) refused
 
+-- .. of the contacts themselves
 abbrev pub judgedFrom : ℕ → ℕ → Table → Got (List Contact) → Judged
 judgedFrom most active t x = ofRead refused (λ cs. settled most active (surveyed (t .states) (t .xs) (t .ys) cs)) x
 

@@ -30,9 +30,9 @@ use Rattle.machine.specs.Table.{contacts}
 use Rattle.machine.specs.Machine.{Machine, Arrays, arraysIn, Counts, runBytes}
 use Rattle.contacts.specs.Touch.{touchView}
 use Rattle.contacts.specs.Ruling.{Counted}
-use Rattle.runs.specs.Runs.{Ran, Runs}
+use Rattle.runs.specs.Runs.{Runs}
 use Rattle.runs.specs.declared.Run.{Run}
-use Rattle.runs.proofs.Running.{ran-as-the-machine-says}
+use Rattle.runs.proofs.Running.{Ran, ran-as-the-machine-says}
 use Rattle.receiver.specs.declared.Receiver.{Receiver}
 use Rattle.receiver.specs.declared.Answer.{Answer}
 use Rattle.receiver.specs.declared.Received.{Received}

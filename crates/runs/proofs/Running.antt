@@ -15,6 +15,7 @@ use Rattle.formats.specs.Format.{got, readSeries}
 use Rattle.formats.proofs.Laws.{more-got}
 use Rattle.fields.specs.Integers.{taken}
 use Rattle.fields.proofs.Laws.{taken-law}
+use Rattle.house.specs.Fields.{recordBytes}
 use Rattle.house.specs.declared.Head.{Head}
 use Rattle.house.specs.declared.Contact.{Contact}
 use Rattle.framing.specs.Frame.{Frame, headOf, timedFrame, timedFrames}
@@ -28,13 +29,13 @@ use Rattle.touch.proofs.Laws.{contact-law}
 use Rattle.touch.proofs.Passes.{frameBy}
 use Rattle.frame_records.specs.Frames.{nowhere}
 use Rattle.machine.specs.Rules.{Rules}
-use Rattle.machine.specs.Machine.{Machine, Arrays, none, plus, countOf, verdict, stepMachine, stepBytes, runMachine, runBytes, runCounts}
+use Rattle.machine.specs.Machine.{Machine, Arrays, inMode, none, plus, countOf, verdict, stepMachine, stepBytes, runMachine, runBytes, runCounts}
 use Rattle.machine.proofs.Machine.{none-plus, plus-none, plus-assoc}
 use Rattle.contacts.specs.Touch.{touchView, touchRules}
 use Rattle.contacts.specs.Ruling.{contactsOf, Counted}
 use Rattle.runs.specs.declared.Run.{Run}
-use Rattle.runs.specs.Runs.{timedHead, laidBy, machineIn, countsOf, passing, headIn, contactsIn, behind, Underway, onFrame, onFrames, beginning, Runs, Ran}
-use Rattle.runs.proofs.Turning.{Turned, turned}
+use Rattle.runs.specs.Runs.{timedHead, laidBy, passing, headIn, contactsIn, behind, Underway, onFrame, onFrames, beginning, Runs}
+use Rattle.runs.proofs.Turning.{machineIn, countsOf, Turned, turned}
 
 -- ---- frames as they are written, one by one
 
@@ -197,7 +198,15 @@ module _ (untimed wet : Bool) (most : ℕ) where
       subst (λ gs. Went (touchRules most) wet gs u u) (sym (ap (timedFrames untimed) z ∙ timed-none untimed)) (went-none (touchRules most) wet u a)
   frames-went (suc n) l u fs rest hl a e = one-more n (frames-went n) l u fs rest hl a e
 
--- ---- the contract's outcome, of frames that can be read
+-- ---- the contract's outcome, of frames fs that can be read; of the output, where nothing is to be written or there is room for all
+
+pub record Ran (rules : Rules Contact) (fs : List (Frame Contact)) (wet running : Bool) (r : Run) (a b : Arrays) (before after : List ℕ) : Type 0 where
+  pub machine : machineIn r b ≡ runMachine touchView rules (inMode running a) fs
+  pub active : Counted (r .active) (b .table .states)
+  pub counts : countsOf r ≡ runCounts touchView rules (inMode running a) fs
+  pub records : recordBytes * r .records ≡ length (runBytes touchView rules (inMode running a) fs)
+  pub kept : wet ≡ false → after ≡ before
+  pub written : wet ≡ true → length (runBytes touchView rules (inMode running a) fs) ≤ length before → after ≡ laid before (runBytes touchView rules (inMode running a) fs)
 
 pub ran-as-the-machine-says : (n : ℕ) (l : List ℕ) (untimed wet running : Bool) (most active : ℕ) (r : Run) (a b : Arrays) (before after : List ℕ)
     → Runs n l untimed wet running most active r a b before after → Bytes l

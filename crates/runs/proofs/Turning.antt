@@ -22,7 +22,7 @@ use Rattle.frame_records.proofs.Laws.{frame-is, length-frame, drafted-whole}
 use Rattle.machine.specs.Rules.{Rules}
 use Rattle.machine.specs.Conforms.{every}
 use Rattle.machine.specs.Held.{activeIds}
-use Rattle.machine.specs.Machine.{Machine, Arrays, isJudged, verdictBy, Counts, plus, countOf, Verdict, injected, ignored, cancelled, verdict, stepMachine, stepBytes}
+use Rattle.machine.specs.Machine.{Machine, Arrays, inMode, isJudged, verdictBy, Counts, plus, countOf, Verdict, injected, ignored, cancelled, verdict, stepMachine, stepBytes}
 use Rattle.machine.proofs.Conforms.{inTable, after-long}
 use Rattle.machine.proofs.Machine.{injected-machine, injected-bytes, ignored-machine, ignored-bytes, cancelled-machine, cancelled-bytes, cancels-length}
 use Rattle.contacts.specs.Touch.{touchView, touchRules}
@@ -34,7 +34,14 @@ use Rattle.contacts.proofs.Judgement.{ruled-as-the-rules-say, ruled-injected, r
 use Rattle.moves.proofs.Moving.{stored-all}
 use Rattle.openings.proofs.Listed.{listed-all}
 use Rattle.runs.specs.declared.Run.{Run}
-use Rattle.runs.specs.Runs.{laidBy, machineIn, countsOf, rulingOn, runAfter, arraysAfter, draftAfter}
+use Rattle.runs.specs.Runs.{laidBy, rulingOn, runAfter, arraysAfter, draftAfter}
+
+-- a run with its arrays, and its counts, as the machine has them
+abbrev pub machineIn : Run → Arrays → Machine
+machineIn r a = inMode (r .running) a
+
+abbrev pub countsOf : Run → Counts
+countsOf r = record { injected = r .injected; ignored = r .ignored; cancelled = r .cancelled }
 
 -- what the machine makes of a frame f, after which the run is r and the arrays are b
 pub record Turned (rules : Rules Contact) (f : Frame Contact) (wet : Bool) (run r : Run) (a b : Arrays) (before after : List ℕ) : Type 0 where

@@ -12,17 +12,15 @@ use Rattle.states.specs.Table.{next}
 use Rattle.house.specs.Fields.{recordBytes}
 use Rattle.house.specs.declared.Head.{Head}
 use Rattle.house.specs.declared.Contact.{Contact}
-use Rattle.framing.specs.Frame.{Frame}
 use Rattle.framing.specs.After.{onRead, afterRead}
 use Rattle.touch.specs.Touch.{contact, frameHead}
 use Rattle.frame_records.specs.Frames.{recordsRead, frameDraft, nowhere}
 use Rattle.machine.specs.Table.{Table, resting}
-use Rattle.machine.specs.Rules.{Rules}
 use Rattle.machine.specs.Conforms.{moved}
 use Rattle.machine.specs.Held.{nobody, activeIds, withListing}
-use Rattle.machine.specs.Machine.{Machine, Arrays, inMode, Counts, cancels, runMachine, runBytes, runCounts}
+use Rattle.machine.specs.Machine.{Arrays, cancels}
 use Rattle.contacts.specs.Touch.{touchView}
-use Rattle.contacts.specs.Ruling.{contactsOf, Counted, judgedFrom, rulingBy}
+use Rattle.contacts.specs.Ruling.{contactsOf, judgedFrom, rulingBy}
 use Rattle.contacts.specs.declared.Ruling.{Ruling}
 use Rattle.contacts.specs.declared.Ruling.the-variants as Ruling
 use Rattle.moves.specs.Moves.{Ends, Applies}
@@ -51,12 +49,6 @@ pub record CarriesFrame (wet : Bool) (head : Head) (l : List ℕ) (end : ℕ) (t
   pub output : after ≡ laidBy wet (frameDraft (length before) head l) before
 
 -- ---- a run so far
-
-abbrev pub machineIn : Run → Arrays → Machine
-machineIn r a = inMode (r .running) a
-
-abbrev pub countsOf : Run → Counts
-countsOf r = record { injected = r .injected; ignored = r .ignored; cancelled = r .cancelled }
 
 -- how many frames it has come over
 abbrev pub framesPassed : Run → ℕ
@@ -118,7 +110,7 @@ pub record Cancels (n : ℕ) (l : List ℕ) (wet : Bool) (run : Run) (r : Steppe
   pub held : Lists n l (r .end) (activeIds (a .table)) (b .held)
   pub output : after ≡ laidBy wet (bytes (cancels touchView (a .table))) before
 
--- a frame with the ruling g; of the run only the bounds are said twice
+-- a frame with the ruling g, and bounds that hold whatever it is
 pub record Steps (g : Ruling) (head : Head) (l : List ℕ) (wet : Bool) (run : Run) (r : Stepped) (a b : Arrays) (before after : List ℕ) : Type 0 where
   pub frames : framesPassed (r .run) ≤ framesPassed run + 1
   pub small : r .run .records ≤ run .records + 65536
@@ -138,13 +130,14 @@ pub record Passes (place records room r : ℕ) : Type 0 where
   pub same : r ≡ passing place records room
   pub inside : r ≤ room
 
--- the head of the frame at the front of l, its contacts, and what is behind them; of what cannot be read nothing is passed, and there is no contact
+-- the head of the frame at the front of l, and what is behind it; a head that cannot be read is one of no contact, and nothing is passed
 abbrev pub headIn : List ℕ → Head
 headIn l = onRead (nowhere .head) (λ h t. h) (frameHead taken false .read l)
 
 abbrev pub contactsIn : List ℕ → List ℕ
 contactsIn l = onRead l (λ h t. t) (frameHead taken false .read l)
 
+-- what is behind n contacts; where they cannot all be read nothing is passed
 abbrev pub behind : ℕ → List ℕ → List ℕ
 behind n l = onRead l (λ cs t. t) (contactsOf n l)
 
@@ -155,6 +148,7 @@ pub record Underway : Type 0 where
   pub output : List ℕ
   pub place : ℕ
 
+-- .. after a frame with the ruling g: it writes at the place, which goes behind as many records as it gives
 abbrev pub underwayAfter : Bool → Ruling → Head → List ℕ → Underway → Underway
 underwayAfter wet g head l u =
     record {
@@ -165,7 +159,7 @@ underwayAfter wet g head l u =
     }
 
 module _ (untimed wet : Bool) (most : ℕ) where
-  -- one frame of this head, then its contacts
+  -- a frame, ruled as the run stands
   abbrev pub onFrame : Head → List ℕ → Underway → Underway
   onFrame head l u = underwayAfter wet (rulingOn most (u .run) (u .arrays) (contactsOf (head .count) l)) head l u
 
@@ -188,12 +182,3 @@ pub record Runs (n : ℕ) (l : List ℕ) (untimed wet running : Bool) (most acti
   pub run : r ≡ onFrames untimed wet most n l (beginning running active a before) .run
   pub arrays : b ≡ onFrames untimed wet most n l (beginning running active a before) .arrays
   pub output : after ≡ onFrames untimed wet most n l (beginning running active a before) .output
-
--- THE SAME BY THE MACHINE, of frames fs that can be read and with the table's number of active contacts; of the output, where nothing is written or there is room for all
-pub record Ran (rules : Rules Contact) (fs : List (Frame Contact)) (wet running : Bool) (r : Run) (a b : Arrays) (before after : List ℕ) : Type 0 where
-  pub machine : machineIn r b ≡ runMachine touchView rules (inMode running a) fs
-  pub active : Counted (r .active) (b .table .states)
-  pub counts : countsOf r ≡ runCounts touchView rules (inMode running a) fs
-  pub records : recordBytes * r .records ≡ length (runBytes touchView rules (inMode running a) fs)
-  pub kept : wet ≡ false → after ≡ before
-  pub written : wet ≡ true → length (runBytes touchView rules (inMode running a) fs) ≤ length before → after ≡ laid before (runBytes touchView rules (inMode running a) fs)

@@ -1,10 +1,11 @@
 -- How what one pass over a frame's contacts finds makes up the judgement of the frame.
 -- Assumes nothing.
-use Prim.Native.Nat.{ℕ, _+_, _-_, _≤_}
+use Prim.Native.Nat.{ℕ, _+_, _-_}
 use mathlib.Core.Path.{_≡_, refl, sym, ap, _∙_}
 use mathlib.Core.Bool.{Bool, true, false, cond}
 use mathlib.Core.List.{List, _∷_}
 use native.Mathlib.Omega.{arith}
+use borrow.Author.Tests.{le-leb}
 use lib.Dec.{leb}
 use lib.IntN.{ℤ}
 use lib.ListN.{length, getD}
@@ -16,7 +17,7 @@ use Rattle.machine.specs.Rules.{Rules}
 use Rattle.machine.specs.Conforms.{every, distinct, tableAfter, conforms}
 use Rattle.machine.specs.Machine.{Verdict, injected, ignored, cancelled, verdictBy}
 use Rattle.contacts.specs.Touch.{touchView, touchRules}
-use Rattle.contacts.specs.Ruling.{ofRead, tableFrom, legalIn, staysIn, allowedIn, came, gone, unlawful, surveyed, CountsActive, Counted, judgedAs, refused, judgedOf, rulingAs, rulingOf, unread}
+use Rattle.contacts.specs.Ruling.{ofRead, tableFrom, legalIn, staysIn, allowedIn, came, gone, unlawful, surveyed, CountsActive, Counted, judgedAs, refused, judgedOf, rulingAs, rulingOf, unread, settled, judgedFrom, rulingBy}
 use Rattle.contacts.specs.declared.Survey.{Survey}
 use Rattle.contacts.specs.declared.Judged.{Judged}
 use Rattle.contacts.specs.declared.Ruling.{Ruling}
@@ -35,96 +36,81 @@ module _ (states : List ℕ) (a r : ℕ) (c : Contact) where
   unfolding gone
   gone-on h cs = omega (arith, h)
 
-never : {P : Type 0} → true ≡ false → P
-never e = absurd (let z : _≡_ {A = ℕ} 0 1 = cc in omega arith)
-
 -- three tests and a fifth, where the fourth passes: the second and the third together or one after the other
 nest : (d l s p f : Bool) → p ≡ true → cond d (cond l (cond s (cond p f false) false) false) false ≡ cond (cond d (cond l s false) false) f false
 nest true true s p f h = rw h
 nest true false s p f h = refl
 nest false l s p f h = refl
 
--- what a judgement says of the number that it was made of
-module _ (b : Bool) (k : ℕ) (j : Judged) (e : j ≡ cond b (record { conforms = true; active = k }) refused) where
-  same-conforms : b ≡ j .conforms
-  same-conforms = both b e
-    where
-      both : (b : Bool) → j ≡ cond b (record { conforms = true; active = k }) refused → b ≡ j .conforms
-      both true e = sym (ap (λ (i : Judged). i .conforms) e)
-      both false e = sym (ap (λ (i : Judged). i .conforms) e)
-
-  same-active : b ≡ true → j .active ≡ k
-  same-active h = let w : j ≡ record { conforms = true; active = k } = rw h at e in ap (λ (i : Judged). i .active) w
-
--- ---- the judgement, of the contacts that are read as x: v is what one pass over them finds
+-- ---- the judgement, of the contacts that are read as x
 
 module _ (most : ℕ) (states : List ℕ) (xs ys : List ℤ) where
-  abbrev judged : List Contact → Judged
-  judged = judgedOf (touchRules most) (tableFrom states xs ys)
+  -- of what one pass over them finds
+  pub settled-read : (k : ℕ) (x : Got (List Contact)) (v : Survey) → v ≡ ofRead unlawful (surveyed states xs ys) x → settled most k v ≡ judgedFrom most k (tableFrom states xs ys) x
+  unfolding settled
+  settled-read k (got cs t) v e = rw e
+  settled-read k (bad y) v e = rw e
 
   -- the two rules of single contacts, each by itself
   allowed : (cs : List Contact) → every (allowedIn states xs ys) cs ≡ cond (every (legalIn states) cs) (every (staysIn xs ys) cs) false
   allowed cs = every-both (allowedIn states xs ys) (legalIn states) (staysIn xs ys) (λ c. refl) cs
 
+  abbrev after : List Contact → ℕ
+  after cs = countActive (tableAfter touchView next (tableFrom states xs ys) cs .states)
+
   -- conforming, where the pass finds nothing and the count decides
   conforming : (cs : List Contact) → conforms touchView (touchRules most) (tableFrom states xs ys) cs
-      ≡ cond (cond (distinct touchView cs) (every (allowedIn states xs ys) cs) false) (leb (countActive (tableAfter touchView next (tableFrom states xs ys) cs .states)) most) false
+      ≡ cond (cond (distinct touchView cs) (every (allowedIn states xs ys) cs) false) (leb (after cs) most) false
   unfolding conforms stateAt placeAt
   conforming cs = rw (allowed cs) (nest (distinct touchView cs) (every (legalIn states) cs) (every (staysIn xs ys) cs) (every (λ (c : Contact). true) cs) _ (every-true cs))
 
-  -- what the pass says by its mark
-  lawful-is : (d : Bool) (k j : ℕ) (v : Survey) → v ≡ cond d (record { lawful = true; came = k; gone = j }) unlawful → v .lawful ≡ d
-  lawful-is true k j v e = ap (λ (i : Survey). i .lawful) e
-  lawful-is false k j v e = ap (λ (i : Survey). i .lawful) e
+  module _ (k : ℕ) (q : Counted k states) where
+    -- where the pass finds nothing: so many come and so many go as the table says
+    lawful-count : (cs : List Contact) → distinct touchView cs ≡ true → every (inTable touchView) cs ≡ true
+        → cond (leb (gone states cs) (k + came next states cs)) (judgedAs most (k + came next states cs - gone states cs)) refused ≡ judgedAs most (after cs)
+    lawful-count cs d i =
+        let n = after-count next (tableFrom states xs ys) cs d i (q .all) in
+        let m : k + came next states cs - gone states cs ≡ after cs = omega (arith, n, q .same) in
+        rw (le-leb (gone states cs) (k + came next states cs) (omega (arith, n, q .same)), m)
 
-  pub breaks : (x : Got (List Contact)) (v : Survey) → v ≡ ofRead unlawful (surveyed states xs ys) x → v .lawful ≡ false → refused ≡ ofRead refused judged x
-  unfolding judgedOf surveyed
-  breaks (got cs t) v e h = rw (conforming cs, sym (lawful-is (cond (distinct touchView cs) (every (allowedIn states xs ys) cs) false) _ _ v e) ∙ h)
-  breaks (bad e) v ev h = refl
+    -- a judgement is what the rules say, where the number of active contacts is the table's
+    pub judged-as-the-rules-say : (x : Got (List Contact)) → ofRead true (every (inTable touchView)) x ≡ true
+        → judgedFrom most k (tableFrom states xs ys) x ≡ ofRead refused (judgedOf (touchRules most) (tableFrom states xs ys)) x
+    unfolding judgedOf settled surveyed
+    judged-as-the-rules-say (bad y) i = refl
+    judged-as-the-rules-say (got cs t) i = rw (conforming cs) (go (cond (distinct touchView cs) (every (allowedIn states xs ys) cs) false) refl)
+      where
+        go : (b : Bool) → cond (distinct touchView cs) (every (allowedIn states xs ys) cs) false ≡ b
+            → settled most k (cond b (record { lawful = true; came = came next states cs; gone = gone states cs }) unlawful)
+            ≡ cond (cond b (leb (after cs) most) false) (record { conforms = true; active = after cs }) refused
+        go true w = lawful-count cs (both-left (distinct touchView cs) _ w) i
+        go false w = refl
 
-  -- what the count of active contacts decides: k before the frame, and v what the pass found
-  pub record Decided (x : Got (List Contact)) (k : ℕ) (v : Survey) : Type 0 where
-    pub fits : v .gone ≤ k + v .came
-    pub same : judgedAs most (k + v .came - v .gone) ≡ ofRead refused judged x
+    -- .. and so is a ruling
+    pub ruled-as-the-rules-say : (judged : Bool) (x : Got (List Contact)) → ofRead true (every (inTable touchView)) x ≡ true
+        → rulingBy judged (judgedFrom most k (tableFrom states xs ys) x) ≡ ofRead (unread judged) (rulingOf judged (touchRules most) (tableFrom states xs ys)) x
+    unfolding judgedOf rulingOf
+    ruled-as-the-rules-say judged x i = ap (rulingBy judged) (judged-as-the-rules-say x i) ∙ go judged x
+      where
+        one : (b : Bool) (n : ℕ) → rulingBy true (cond b (record { conforms = true; active = n }) refused) ≡ rulingAs (cond b injected cancelled) n
+        one true n = refl
+        one false n = refl
 
-  pub decided : (x : Got (List Contact)) (k : ℕ) (v : Survey) → v ≡ ofRead unlawful (surveyed states xs ys) x → v .lawful ≡ true
-      → ofRead true (every (inTable touchView)) x ≡ true → Counted k states → Decided x k v
-  unfolding judgedOf surveyed
-  decided (got cs t) k v e h i q =
-      let b = cond (distinct touchView cs) (every (allowedIn states xs ys) cs) false in
-      let w : b ≡ true = sym (lawful-is b _ _ v e) ∙ h in
-      let f : v ≡ record { lawful = true; came = came next states cs; gone = gone states cs } = rw w at e in
-      let n = after-count next (tableFrom states xs ys) cs (both-left (distinct touchView cs) _ w) i (q .all) in
-      let ec : v .came ≡ came next states cs = ap (λ (i : Survey). i .came) f in
-      let eg : v .gone ≡ gone states cs = ap (λ (i : Survey). i .gone) f in
-      let m : k + v .came - v .gone ≡ countActive (tableAfter touchView next (tableFrom states xs ys) cs .states) = omega (arith, n, ec, eg, q .same) in
-      record { fits = omega (arith, n, ec, eg, q .same); same = rw (m, conforming cs, w) }
-  decided (bad x) k v e h i q = never (sym h ∙ ap (λ (i : Survey). i .lawful) e)
+        go : (judged : Bool) (x : Got (List Contact)) → rulingBy judged (ofRead refused (judgedOf (touchRules most) (tableFrom states xs ys)) x)
+            ≡ ofRead (unread judged) (rulingOf judged (touchRules most) (tableFrom states xs ys)) x
+        go true (got cs t) = one (conforms touchView (touchRules most) (tableFrom states xs ys) cs) (after cs)
+        go true (bad y) = refl
+        go false (got cs t) = refl
+        go false (bad y) = refl
 
-  -- ---- the ruling of a frame that is judged
+-- ---- the ruling of a frame that is judged, by whether it conforms
 
-  abbrev ruling : Got (List Contact) → Ruling
-  ruling = ofRead (unread true) (rulingOf true (touchRules most) (tableFrom states xs ys))
+module _ (j i : Judged) (e : j ≡ i) where
+  pub rules-in : j .conforms ≡ true → Ruling.Injected (j .active) ≡ rulingBy true i
+  rules-in h = sym (ap (λ (b : Bool). cond b (Ruling.Injected (j .active)) Ruling.Cancelled) h) ∙ ap (rulingBy true) e
 
-  pub injects : (x : Got (List Contact)) (j : Judged) → j ≡ ofRead refused judged x → j .conforms ≡ true → Ruling.Injected (j .active) ≡ ruling x
-  unfolding judgedOf rulingOf
-  injects (bad x) j e h = never (sym h ∙ ap (λ (i : Judged). i .conforms) e)
-  injects (got cs t) j e h =
-      let b = conforms touchView (touchRules most) (tableFrom states xs ys) cs in
-      let k = countActive (tableAfter touchView next (tableFrom states xs ys) cs .states) in
-      let w = same-conforms b k j e ∙ h in
-      rw w (ap Ruling.Injected (same-active b k j e w))
-
-  pub cancelling : (x : Got (List Contact)) (j : Judged) → j ≡ ofRead refused judged x → j .conforms ≡ false → Ruling.Cancelled ≡ ruling x
-  unfolding judgedOf rulingOf
-  cancelling (got cs t) j e h = rw (same-conforms (conforms touchView (touchRules most) (tableFrom states xs ys) cs) _ j e ∙ h)
-  cancelling (bad x) j e h = refl
-
--- .. and of one that is not
-pub ignores : (rules : Rules Contact) (t : Table) (x : Got (List Contact)) → Ruling.Ignored ≡ ofRead (unread false) (rulingOf false rules t) x
-unfolding rulingOf
-ignores rules t (got cs l) = refl
-ignores rules t (bad x) = refl
+  pub rules-out : j .conforms ≡ false → Ruling.Cancelled ≡ rulingBy true i
+  rules-out h = sym (ap (λ (b : Bool). cond b (Ruling.Injected (j .active)) Ruling.Cancelled) h) ∙ ap (rulingBy true) e
 
 -- ---- what a caller learns of a ruling
 

@@ -1,4 +1,4 @@
--- Two answers that a contract of this crate allows are equal; for a judgement and a ruling, where the count that is given is the table's.
+-- Two answers that a contract of this crate allows are equal.
 -- Assumes nothing.
 use Prim.Native.Nat.{ℕ}
 use mathlib.Core.Path.{_≡_, sym, _∙_}
@@ -11,8 +11,7 @@ use Rattle.touch.specs.Answer.{contactGot, contactLength}
 use Rattle.touch.specs.declared.ReadContact.{ReadContact}
 use Rattle.touch.proofs.Unique.{contact-answer-unique}
 use Rattle.machine.specs.Table.{Table}
-use Rattle.machine.specs.Rules.{Rules}
-use Rattle.contacts.specs.Ruling.{source, CountsActive, Counted, Judges, Decides}
+use Rattle.contacts.specs.Ruling.{source, CountsActive, Counted, judgedFrom, rulingBy}
 use Rattle.contacts.specs.declared.Judged.{Judged}
 use Rattle.contacts.specs.declared.Ruling.{Ruling}
 
@@ -26,9 +25,9 @@ pub read-contact-unique : (recorded : Bool) (l : List ℕ) (a b : ReadContact)
     → Answers (source recorded) l (contactGot a l) (contactLength a) → Answers (source recorded) l (contactGot b l) (contactLength b) → a ≡ b
 read-contact-unique recorded = contact-answer-unique (source recorded)
 
-module _ (x : Got (List Contact)) where
-  pub judge-unique : (rules : Rules Contact) (t : Table) (active : ℕ) (a b : Judged) → Counted active (t .states) → Judges rules t active x a → Judges rules t active x b → a ≡ b
-  judge-unique rules t active a b k e f = e k ∙ sym (f k)
+module _ (most active : ℕ) (t : Table) (x : Got (List Contact)) where
+  pub judge-unique : (a b : Judged) → a ≡ judgedFrom most active t x → b ≡ judgedFrom most active t x → a ≡ b
+  judge-unique a b e f = e ∙ sym f
 
-  pub verdict-of-unique : (judged : Bool) (rules : Rules Contact) (t : Table) (active : ℕ) (a b : Ruling) → Counted active (t .states) → Decides judged rules t active x a → Decides judged rules t active x b → a ≡ b
-  verdict-of-unique judged rules t active a b k e f = e k ∙ sym (f k)
+  pub verdict-of-unique : (judged : Bool) (a b : Ruling) → a ≡ rulingBy judged (judgedFrom most active t x) → b ≡ rulingBy judged (judgedFrom most active t x) → a ≡ b
+  verdict-of-unique judged a b e f = e ∙ sym f

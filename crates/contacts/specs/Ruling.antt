@@ -1,5 +1,5 @@
 -- What the code answers for a frame: of the contacts as they are read, and of a table as it is lent.
-use Prim.Native.Nat.{ℕ, _+_, _≤_}
+use Prim.Native.Nat.{ℕ, _+_, _-_, _≤_}
 use mathlib.Core.Path.{_≡_}
 use mathlib.Core.Bool.{Bool, true, false, cond}
 use mathlib.Core.List.{List, [], _∷_}
@@ -113,10 +113,16 @@ rulingOf judged rules t cs = rulingAs (verdictBy touchView judged rules t cs) (c
 abbrev pub unread : Bool → Ruling
 unread judged = cond judged Ruling.Cancelled Ruling.Ignored
 
--- ---- the promises, of contacts that are read as x; the number of active contacts is to be the table's
+-- ---- the promises, of contacts that are read as x; the number of active contacts is the one that is given, whether it is the table's or not
 
-abbrev pub Judges : Rules Contact → Table → ℕ → Got (List Contact) → Judged → Type 0
-Judges rules t active x r = Counted active (t .states) → r ≡ ofRead refused (judgedOf rules t) x
+-- of what one pass found: nothing more is asked of a frame that breaks a rule, nor where more contacts would go than there are
+unfoldable pub settled : ℕ → ℕ → Survey → Judged
+settled most active v = cond (v .lawful) (cond (leb (v .gone) (active + v .came)) (judgedAs most (active + v .came - v .gone)) refused) refused
 
-abbrev pub Decides : Bool → Rules Contact → Table → ℕ → Got (List Contact) → Ruling → Type 0
-Decides judged rules t active x r = Counted active (t .states) → r ≡ ofRead (unread judged) (rulingOf judged rules t) x
+-- .. of the contacts themselves
+abbrev pub judgedFrom : ℕ → ℕ → Table → Got (List Contact) → Judged
+judgedFrom most active t x = ofRead refused (λ cs. settled most active (surveyed (t .states) (t .xs) (t .ys) cs)) x
+
+-- what becomes of a frame, which is judged or is not
+abbrev pub rulingBy : Bool → Judged → Ruling
+rulingBy judged j = cond judged (cond (j .conforms) (Ruling.Injected (j .active)) Ruling.Cancelled) Ruling.Ignored

@@ -4,28 +4,24 @@ use crate::Ruling;
 use crate::Survey;
 use crate::scan::survey;
 ghost use mathlib.Core.Path.{_≡_};
-ghost use Prim.Native.Nat.{_+_, _-_, _≤_};
-ghost use Rattle.contacts.specs.Touch.{touchRules};
-ghost use Rattle.contacts.specs.Ruling.{source, contactsBy, contactsOf, tableFrom, judgedAs, Judges, Decides};
+ghost use Rattle.contacts.specs.Ruling.{source, contactsBy, contactsOf, tableFrom, settled, judgedFrom, rulingBy};
 
-// At most so many contacts are active after the frame.
+// What is found of a frame decides, and then the count: at most so many contacts are active after it.
 fn settle(found: Survey, active: u16, most: u16) -> Judged
-    ensures { λ r. ⌜ (found .gone ≤ active + found .came → r ≡ judgedAs most (active + found .came - found .gone)) ⌝ }
+    ensures { λ r. ⌜ r ≡ settled most active found ⌝ }
 {
     let came = active as u32 + found.came as u32;
     let gone = found.gone as u32;
-    if came < gone {
-        return Judged {
-            conforms: false,
-            active: 0,
-        };
-    }
-    let after = came - gone;
-    if after <= most as u32 {
-        return Judged {
-            conforms: true,
-            active: after as u16,
-        };
+    if found.lawful {
+        if gone <= came {
+            let after = came - gone;
+            if after <= most as u32 {
+                return Judged {
+                    conforms: true,
+                    active: after as u16,
+                };
+            }
+        }
     }
     Judged {
         conforms: false,
@@ -44,16 +40,10 @@ pub fn judge(
     most: u16,
     active: u16,
 ) -> Judged
-    ensures { λ r. ⌜ Judges (touchRules most) (tableFrom (now (states .entry)) (now (xs .entry)) (now (ys .entry))) active (contactsBy (source recorded) n (now (rest .entry))) r ⌝ }
+    ensures { λ r. ⌜ r ≡ judgedFrom most active (tableFrom (now (states .entry)) (now (xs .entry)) (now (ys .entry))) (contactsBy (source recorded) n (now (rest .entry))) ⌝ }
 {
     let found = survey(rest, n, recorded, states, xs, ys);
-    if found.lawful {
-        return settle(found, active, most);
-    }
-    Judged {
-        conforms: false,
-        active: 0,
-    }
+    settle(found, active, most)
 }
 
 // What becomes of a frame of n contacts, which is judged or is not.
@@ -67,7 +57,7 @@ pub fn verdict_of(
     most: u16,
     active: u16,
 ) -> Ruling
-    ensures { λ r. ⌜ Decides judged (touchRules most) (tableFrom (now (states .entry)) (now (xs .entry)) (now (ys .entry))) active (contactsOf n (now (rest .entry))) r ⌝ }
+    ensures { λ r. ⌜ r ≡ rulingBy judged (judgedFrom most active (tableFrom (now (states .entry)) (now (xs .entry)) (now (ys .entry))) (contactsOf n (now (rest .entry)))) ⌝ }
 {
     if judged {
         let found = judge(rest, n, false, states, xs, ys, most, active);

@@ -15,14 +15,11 @@ use Rattle.fields.specs.Integers.{taken}
 use Rattle.house.specs.declared.Head.{Head}
 use Rattle.house.specs.declared.Contact.{Contact}
 use Rattle.framing.specs.Frame.{Frame, headOf}
-use Rattle.touch.specs.Limits.{touchLimits}
-use Rattle.framing.proofs.Reading.{frame-got}
 use Rattle.framing.specs.Format.{frameFormat}
 use Rattle.touch.specs.Touch.{contact, frameHead, frame}
 use Rattle.touch.proofs.Passes.{frameBy}
-use Rattle.frame_records.specs.Frames.{Found, nowhere, FindsFrame, FindsHeadAt, FindsHead}
+use Rattle.frame_records.specs.Frames.{Found, nowhere, FindsFrame}
 use Rattle.frame_records.specs.declared.FoundFrame.{FoundFrame}
-use Rattle.frame_records.specs.declared.FoundHead.{FoundHead}
 
 module _ (l : List ℕ) where
   -- no head
@@ -76,25 +73,6 @@ module _ (l : List ℕ) (at : ℕ) (r : FoundFrame) (here : FindsFrame (take (le
   -- where the frame can be read, it is the one that was found
   pub found-at : (f : Frame Contact) (t : List ℕ) → frameBy false (drop at l) ≡ got f t → Found (drop at l) f t r
   found-at f t e = let h : FindsFrame (drop at l) r = rw (tail l at) at here in rw e at (h .found)
-
--- a frame whose head was found, and of whose contacts it is known where they end
-pub found-by-head : (l : List ℕ) (at : ℕ) (h : FoundHead) (end : ℕ) → FindsHead (take (length l - at) (drop at l)) h
-    → ((cs : List Contact) (t : List ℕ) → times (h .head .count) (contact taken) .read (drop (at + h .contacts) l) ≡ got cs t → drop end (drop (at + h .contacts) l) ≡ t)
-    → (f : Frame Contact) (t : List ℕ) → frameBy false (drop at l) ≡ got f t
-    → Found (drop at l) f t (record { head = h .head; contacts = h .contacts; end = h .contacts + end })
-found-by-head l at h end here ends f t e =
-    let r = frame-got taken touchLimits (contact taken) false (drop at l) f t e in
-    let x : FindsHead (drop at l) h = rw (tail l at) at here in
-    let y : FindsHeadAt (got (headOf f) (r .after)) (drop at l) h = rw (r .head) at (x .found) in
-    let a : drop (at + h .contacts) l ≡ r .after = sym (drop-drop (h .contacts) at l) ∙ y .1 in
-    let n : h .head .count ≡ length (f .contacts) = ap (λ (g : Head). g .count) (y .0) in
-    let cs : times (length (f .contacts)) (contact taken) .read (drop (at + h .contacts) l) ≡ got (f .contacts) t = rw a (r .contacts) in
-    record {
-      head = y .0;
-      headed = r .head ∙ ap (λ (u : List ℕ). got (headOf f) u) (sym (y .1));
-      contacts = rw (y .1) (r .contacts);
-      rest = sym (drop-drop end (h .contacts) (drop at l)) ∙ ap (drop end) (drop-drop (h .contacts) at l) ∙ ends (f .contacts) t (rw n cs);
-    }
 
 module _ (l : List ℕ) (at : ℕ) (r : FoundFrame) (here : (f : Frame Contact) (t : List ℕ) → frameBy false (drop at l) ≡ got f t → Found (drop at l) f t r) where
   -- the frame that is next of those to come

@@ -9,9 +9,9 @@ use lib.ListN.{length, drop, length-append, length-drop}
 use borrow.Rule.Slice.PartMut.{midOf, putMid}
 use Rattle.slices.specs.Writing.{laid}
 use Rattle.slices.proofs.Tails.{laidAt, laid-none, tail-is, wrote}
-use Rattle.formats.specs.Format.{got, bad, Format, readSeries}
-use Rattle.formats.proofs.Laws.{never, next-got}
-use Rattle.formats.proofs.Steps.{series-end, series-bad}
+use Rattle.formats.specs.Format.{got, Format, readSeries}
+use Rattle.formats.proofs.Laws.{next-got}
+use Rattle.formats.proofs.Steps.{series-end}
 
 -- values of the formats f, and the bytes b that are written of them
 module _ {A : Type 0} (f : Bool → Format A) (b : List A → List ℕ) where
@@ -43,9 +43,6 @@ module _ {A : Type 0} (f : Bool → Format A) (b : List A → List ℕ) where
     ahead-first n e r = record { more = whole; read = e; room = omega arith; long = refl; same = refl }
 
     module _ (out : List ℕ) (pos at left : ℕ) (h : Ahead l d whole t out pos at left) where
-      pub ahead-bad : {P : Type 0} (x : ℕ) → 0 < left → f false .read (drop at l) ≡ bad x → P
-      ahead-bad x k e = never x (h .more) t (sym (series-bad (λ k. f k .read) false left (drop at l) x k e) ∙ h .read)
-
       -- there is room for the next value
       pub ahead-room : (a : A) (next : ℕ) (s : List ℕ) → 0 < left → f false .read (drop at l) ≡ got a (drop next l) → ((more : List A) → b (a ∷ more) ≡ s ++ b more)
           → length s ≤ length (midOf pos (length out - pos) out)

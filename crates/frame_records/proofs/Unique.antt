@@ -1,4 +1,4 @@
--- Two outcomes that a contract of this crate allows are equal: of finding a frame always, of writing one where its contacts can be read.
+-- Two outcomes that a contract of this crate allows are equal.
 -- Assumes nothing.
 use Prim.Native.Nat.{ℕ, _≤_}
 use mathlib.Core.Path.{_≡_, sym, ap, _∙_}
@@ -8,19 +8,18 @@ use native.Mathlib.Omega.{arith}
 use lib.ListN.{length, drop, length-drop}
 use Rattle.slices.specs.declared.Written.{Written}
 use Rattle.slices.proofs.Laws.{writes-unique}
-use Rattle.formats.specs.Format.{Got, got, bad, times}
+use Rattle.formats.specs.Format.{Got, got, bad}
 use Rattle.fields.specs.Integers.{taken}
 use Rattle.house.specs.declared.Head.{Head}
 use Rattle.house.specs.declared.Contact.{Contact}
 use Rattle.framing.specs.Frame.{Frame, headOf}
-use Rattle.touch.specs.Touch.{contact, frameHead, frame}
+use Rattle.touch.specs.Touch.{frameHead, frame}
 use Rattle.frame_records.specs.Frames.{WritesFrame, Finds, FindsFrame, FindsHeadAt, FindsHead}
 use Rattle.frame_records.specs.declared.FoundFrame.{FoundFrame}
 use Rattle.frame_records.specs.declared.FoundHead.{FoundHead}
 
-pub write-frame-unique : (h : Head) (l : List ℕ) (cs : List Contact) (t : List ℕ) → times (h .count) (contact taken) .read l ≡ got cs t
-    → (v w : Written) (before after after′ : List ℕ) → WritesFrame h l v before after → WritesFrame h l w before after′ → (v ≡ w) × (after ≡ after′)
-write-frame-unique h l cs t e v w b a a′ p q = writes-unique _ v w b a a′ (p cs t e) (q cs t e)
+pub write-frame-unique : (h : Head) (l : List ℕ) (v w : Written) (before after after′ : List ℕ) → WritesFrame h l v before after → WritesFrame h l w before after′ → (v ≡ w) × (after ≡ after′)
+write-frame-unique h l v w b a a′ p q = writes-unique _ v w b a a′ p q
 
 -- ---- finding
 

@@ -7,10 +7,10 @@ ghost use lib.ListN.{length};
 ghost use Rattle.house.specs.Fields.{recordBytes};
 ghost use Rattle.frame_records.specs.Frames.{WritesContacts, WritesFrame};
 
-// A record for each of n contacts, each where the one before it ended.
-fn write_contacts(out: &mut [u8], rest: &[u8], n: usize)
+// A record for each of n contacts, each where the one before it ended, up to the first that cannot be read. Answers how many bytes it wrote.
+fn write_contacts(out: &mut [u8], rest: &[u8], n: usize) -> usize
     requires { ⌜ recordBytes * n ≤ length (now out) ⌝ }
-    ensures { λ _. ⌜ WritesContacts n (now (rest .entry)) (now (out .entry)) (now (out .exit)) ⌝ }
+    ensures { λ r. ⌜ WritesContacts n (now (rest .entry)) r (now (out .entry)) (now (out .exit)) ⌝ }
 {
     let mut pos: usize = 0;
     let mut at: usize = 0;
@@ -18,16 +18,17 @@ fn write_contacts(out: &mut [u8], rest: &[u8], n: usize)
     while 0 < left {
         let got = touch::read_contact(&rest[at..], false);
         let ReadContact::Value(contact, k) = got else {
-            return;
+            return pos;
         };
         house::write_contact(&mut out[pos..], house::TOUCHED, contact);
         pos += house::RECORD_BYTES;
         at += k;
         left -= 1;
     }
+    pos
 }
 
-// Writes a frame of this head whose contacts are at the front of rest, where there is room for all of it.
+// Writes a frame of this head whose contacts are at the front of rest, where there is room for as many records as the head says.
 pub fn write_frame(out: &mut [u8], head: Head, rest: &[u8]) -> Written
     ensures { λ r. ⌜ WritesFrame head (now (rest .entry)) r (now (out .entry)) (now (out .exit)) ⌝ }
 {
@@ -40,9 +41,9 @@ pub fn write_frame(out: &mut [u8], head: Head, rest: &[u8]) -> Written
         };
     }
     house::write_head(out, head);
-    write_contacts(&mut out[house::RECORD_BYTES..], rest, count);
+    let more = write_contacts(&mut out[house::RECORD_BYTES..], rest, count);
     Written {
         refusal: 0,
-        bytes: all,
+        bytes: house::RECORD_BYTES + more,
     }
 }

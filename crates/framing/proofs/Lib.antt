@@ -10,3 +10,4 @@ pub mod Least
 pub mod Whole
 pub mod Agreeing
 pub mod Limits
+pub mod After

@@ -2,3 +2,4 @@
 pub mod Frame
 pub mod Format
 pub mod Whole
+pub mod After

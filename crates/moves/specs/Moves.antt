@@ -1,5 +1,5 @@
 -- What the calls leave of a table of contacts: a frame's contacts as they are read, and a dismissal by the room that it was lent.
-use Prim.Native.Nat.{ℕ, zero, suc, _≤_}
+use Prim.Native.Nat.{ℕ, _≤_}
 use mathlib.Core.Path.{_≡_}
 use mathlib.Core.Bool.{cond}
 use mathlib.Core.List.{List}
@@ -8,6 +8,7 @@ use lib.ListN.{length, drop}
 use Rattle.slices.specs.Writing.{bytes, Writes}
 use Rattle.slices.specs.declared.Written.{Written}
 use Rattle.formats.specs.Format.{Got, got, bad, Format}
+use Rattle.framing.specs.After.{afterRead}
 use Rattle.states.specs.Table.{next}
 use Rattle.house.specs.declared.Contact.{Contact}
 use Rattle.machine.specs.Table.{Table}
@@ -15,18 +16,6 @@ use Rattle.machine.specs.Conforms.{moved}
 use Rattle.machine.specs.Machine.{dismissTable, dismissBytes}
 use Rattle.contacts.specs.Touch.{touchView}
 use Rattle.contacts.specs.Ruling.{contactsBy}
-
--- what a value and the bytes after it lead to, and z where there is none
-abbrev pub onRead : {A B : Type 0} → B → (A → List ℕ → B) → Got A → B
-onRead z f (got a t) = f a t
-onRead z f (bad e) = z
-
--- what n contacts at the front of a list of bytes leave of a, one after the other by a step; those before the first that cannot be read, where one
--- cannot
-module _ {A : Type 0} (step : A → Contact → A) (format : Format Contact) where
-  unfoldable pub afterRead : ℕ → A → List ℕ → A
-  afterRead zero a l = a
-  afterRead (suc n) a l = onRead a (λ c rest. afterRead n (step a c) rest) (format .read l)
 
 -- one contact stored
 abbrev pub Moves : Contact → Table → Table → Type 0

@@ -17,13 +17,13 @@ use Rattle.machine.specs.Held.{activeIds, withListing, heldAfter}
 use Rattle.machine.proofs.Held.{active-length}
 use Rattle.contacts.specs.Touch.{touchView}
 use Rattle.contacts.specs.Ruling.{contactsOf, tableFrom}
-use Rattle.moves.proofs.Moving.{read-all}
-use Rattle.openings.specs.Openings.{Lists}
+use Rattle.framing.specs.After.{afterRead}
+use Rattle.framing.proofs.After.{read-all}
 
-pub listed-after : (n : ℕ) (l : List ℕ) (end : ℕ) (h k : List ℕ) (cs : List Contact) (rest : List ℕ) → Lists n l end h k → contactsOf n l ≡ got cs rest → k ≡ heldAfter touchView h cs
+-- those that can all be read, listed
+pub listed-all : (n : ℕ) (h l : List ℕ) (cs : List Contact) (rest : List ℕ) → contactsOf n l ≡ got cs rest → afterRead (withListing touchView) (contact taken) n h l ≡ heldAfter touchView h cs
 unfolding heldAfter
-listed-after n l end h k cs rest w e =
-    w .held ∙ read-all (withListing touchView) (contact taken) (heldAfter touchView) (λ a. refl) (λ a c ds. refl) n h l cs rest e
+listed-all = read-all (withListing touchView) (contact taken) (heldAfter touchView) (λ a. refl) (λ a c ds. refl)
 
 -- ---- the marks of those active, put one after the other: those before i are put, the others are as they were
 

@@ -2,24 +2,19 @@
 -- Assumes nothing.
 use Prim.Native.Nat.{ℕ}
 use mathlib.Core.Path.{_≡_, sym, _∙_}
-use mathlib.Core.Bool.{Bool, false}
+use mathlib.Core.Bool.{Bool}
 use mathlib.Core.List.{List, []}
 use Rattle.formats.specs.Format.{Got}
 use Rattle.fields.specs.Integers.{taken}
 use Rattle.house.specs.declared.Contact.{Contact}
 use Rattle.touch.specs.Touch.{contact}
-use Rattle.machine.specs.Held.{activeIds, opening}
-use Rattle.contacts.specs.Touch.{touchView}
-use Rattle.contacts.specs.Ruling.{tableFrom, ofRead}
+use Rattle.machine.specs.Held.{activeIds}
+use Rattle.contacts.specs.Ruling.{tableFrom}
 use Rattle.moves.proofs.Unique.{ends-unique}
 use Rattle.openings.specs.Openings.{judgedAmong, Lists}
 
-module _ (held : List ℕ) (x : Got (List Contact)) (a b : Bool) where
-  pub is-opening-unique : a ≡ ofRead false (opening touchView held) x → b ≡ ofRead false (opening touchView held) x → a ≡ b
-  is-opening-unique e f = e ∙ sym f
-
-  pub is-judged-unique : (running : Bool) → a ≡ judgedAmong running held x → b ≡ judgedAmong running held x → a ≡ b
-  is-judged-unique running e f = e ∙ sym f
+pub is-judged-unique : (running : Bool) (held : List ℕ) (x : Got (List Contact)) (a b : Bool) → a ≡ judgedAmong running held x → b ≡ judgedAmong running held x → a ≡ b
+is-judged-unique running held x a b e f = e ∙ sym f
 
 pub mark-active-unique : (states a b : List ℕ) → a ≡ activeIds (tableFrom states [] []) → b ≡ activeIds (tableFrom states [] []) → a ≡ b
 mark-active-unique states a b e f = e ∙ sym f

@@ -10,7 +10,8 @@ use Rattle.touch.specs.Touch.{contact}
 use Rattle.machine.specs.Held.{isDown, isFree, withListing, opening}
 use Rattle.contacts.specs.Touch.{touchView}
 use Rattle.contacts.specs.Ruling.{ofRead}
-use Rattle.moves.specs.Moves.{afterRead, Ends}
+use Rattle.framing.specs.After.{afterRead}
+use Rattle.moves.specs.Moves.{Ends}
 
 -- one contact, by the first or by the second of the two rules that make a frame opening
 abbrev pub passesBy : Bool → List ℕ → Contact → Bool

@@ -5,4 +5,3 @@ mod opening;
 pub use listing::list_contacts;
 pub use listing::mark_active;
 pub use opening::is_judged;
-pub use opening::is_opening;

@@ -64,7 +64,7 @@ fn all_pass(rest: &[u8], n: u16, hovers: bool, held: &[u8; 256]) -> bool
 }
 
 // Whether a frame is opening: it has a contact, and either each has 0x19, or each has 0x19 or 0x0A and no id is in the set.
-pub fn is_opening(rest: &[u8], n: u16, held: &[u8; 256]) -> bool
+fn is_opening(rest: &[u8], n: u16, held: &[u8; 256]) -> bool
     ensures { λ r. ⌜ r ≡ ofRead false (opening touchView (now (held .entry))) (contactsOf n (now (rest .entry))) ⌝ }
 {
     if n == 0 {

@@ -15,11 +15,12 @@ use Rattle.framing.specs.Frame.{Frame}
 use Rattle.recordings.specs.Records.{contactRecord, frameRecords}
 use Rattle.recordings.specs.Answer.{contactsAfter}
 use Rattle.machine.specs.Table.{Table, countActive}
-use Rattle.machine.specs.Conforms.{tableAfter, conforms}
-use Rattle.machine.proofs.Conforms.{after-long}
+use Rattle.machine.specs.Conforms.{every, tableAfter, conforms}
+use Rattle.machine.proofs.Conforms.{inTable, after-long}
 use Rattle.contacts.specs.Touch.{touchView, touchRules}
-use Rattle.contacts.specs.Ruling.{contactsBy, ofRead, Counted, refused, judgedOf, Judges}
+use Rattle.contacts.specs.Ruling.{contactsBy, ofRead, Counted, refused, judgedOf, judgedFrom}
 use Rattle.contacts.specs.declared.Judged.{Judged}
+use Rattle.contacts.proofs.Judgement.{judged-as-the-rules-say}
 use Rattle.moves.specs.Moves.{Applies}
 use Rattle.moves.proofs.Moving.{applies-after, ends-read}
 use Rattle.panel_checks.proofs.Recorded.{parts}
@@ -38,14 +39,16 @@ says true k j e = record { same = ap (λ (i : Judged). i .conforms) e; active = 
 says false k j e = record { same = ap (λ (i : Judged). i .conforms) e; active = λ w. never (sym (ap (λ (i : Judged). i .conforms) e) ∙ w) }
 
 -- s is what is behind the head, and n the count in it
-module _ (most : ℕ) (l : List ℕ) (f : Frame Contact) (rest : List ℕ) (e : frameRecords .read l ≡ got f rest) (t : Table) (s : List ℕ) (es : s ≡ drop 21 l) (n : ℕ) (en : n ≡ contactsAfter (recordOf l)) where
+module _ (most : ℕ) (l : List ℕ) (f : Frame Contact) (rest : List ℕ) (e : frameRecords .read l ≡ got f rest) (t : Table) (s : List ℕ) (es : s ≡ drop 21 l) (n : ℕ) (en : n ≡ contactsAfter (recordOf l)) (ids : ofRead true (every (inTable touchView)) (contactsBy contactRecord n s) ≡ true) where
   contacts-read : contactsBy contactRecord n s ≡ got (f .contacts) rest
   contacts-read = rw (es, en) (parts l f rest e .contacts)
 
-  module _ (active : ℕ) (k : Counted active (t .states)) (j : Judged) (h : Judges (touchRules most) t active (contactsBy contactRecord n s) j) where
+  module _ (active : ℕ) (k : Counted active (t .states)) (j : Judged) (h : j ≡ judgedFrom most active t (contactsBy contactRecord n s)) where
     judgement : Says (conforms touchView (touchRules most) t (f .contacts)) (countActive (tableAfter touchView next t (f .contacts) .states)) j
     unfolding judgedOf
-    judgement = says _ _ j (h k ∙ ap (ofRead refused (judgedOf (touchRules most) t)) contacts-read)
+    judgement =
+        let r = judged-as-the-rules-say most (t .states) (t .xs) (t .ys) active k (contactsBy contactRecord n s) ids in
+        says _ _ j (h ∙ r ∙ ap (ofRead refused (judgedOf (touchRules most) t)) contacts-read)
 
     pub step-fails : j .conforms ≡ false → (u : Table) → StepsOver (touchRules most) f rest l (record { conforms = false; active = 0; end = 0 }) t u
     step-fails w u =

@@ -17,7 +17,7 @@ use Rattle.framing.specs.Frame.{Frame, contactsBytes, frameBytes, framesBytes}
 use Rattle.touch.specs.Touch.{frame, touchRecord}
 use Rattle.frame_records.specs.Frames.{WritesFrame, FindsFrame}
 use Rattle.frame_records.specs.declared.FoundFrame.{FoundFrame}
-use Rattle.frame_records.proofs.Laws.{frame-is, frames-cons, frames-none}
+use Rattle.frame_records.proofs.Laws.{frame-is, frames-cons, frames-none, frame-written}
 use Rattle.frame_records.proofs.Finding.{found-at, turn}
 use Rattle.frame_records.proofs.Passes.{Ahead, ahead-first, ahead-room, ahead-next, ahead-done}
 use Rattle.reading.specs.Passes.{frames, Roomy, WritesFrames}
@@ -42,7 +42,7 @@ module _ (n : ℕ) (l d : List ℕ) where
         let x = turn l at r (found-at l at r here) [] left (a .more) k (a .read) in
         let f = x .frame in
         let next = at + r .end in
-        let y : Writes (bytes (headBytes (r .head) ++ contactsBytes touchRecord (f .contacts))) w (midOf pos (length out - pos) out) o = written (f .contacts) (drop next l) (rw (tail l (at + r .contacts)) (x .contacts)) in
+        let y : Writes (bytes (headBytes (r .head) ++ contactsBytes touchRecord (f .contacts))) w (midOf pos (length out - pos) out) o = frame-written (r .head) _ (f .contacts) (drop next l) (rw (tail l (at + r .contacts)) (x .contacts)) w _ o written in
         let e : headBytes (r .head) ++ contactsBytes touchRecord (f .contacts) ≡ frameBytes touchRecord f = ap (λ g. headBytes g ++ contactsBytes touchRecord (f .contacts)) (x .head) ∙ sym (frame-is f) in
         let z : Writes (bytes (frameBytes touchRecord f)) w (midOf pos (length out - pos) out) o = rw e at y in
         let v = writes-done _ _ _ _ z (ahead-room (frame taken) (framesBytes touchRecord) l d (h .whole) [] out pos at left a f next (frameBytes touchRecord f) k (x .read) (frames-cons f)) in

@@ -9,6 +9,7 @@ use borrow.Author.Tests.{leb-true}
 use lib.ListN.{length, take, drop}
 use Rattle.paper.specs.Refusals.{none, noRoom}
 use Rattle.paper.specs.declared.Milliseconds.{Milliseconds}
+use Rattle.digits.specs.Digits.{Bytes}
 use Rattle.slices.specs.Writing.{laid}
 use Rattle.formats.specs.Format.{Got, got, bad, readSeries}
 use Rattle.formats.proofs.Laws.{never}
@@ -29,8 +30,9 @@ use Rattle.machine.specs.Table.{contacts}
 use Rattle.machine.specs.Machine.{Machine, Arrays, arraysIn, Counts, runBytes}
 use Rattle.contacts.specs.Touch.{touchView}
 use Rattle.contacts.specs.Ruling.{Counted}
-use Rattle.runs.specs.Runs.{Ran, Runs}
+use Rattle.runs.specs.Runs.{Runs}
 use Rattle.runs.specs.declared.Run.{Run}
+use Rattle.runs.proofs.Running.{Ran, ran-as-the-machine-says}
 use Rattle.receiver.specs.declared.Receiver.{Receiver}
 use Rattle.receiver.specs.declared.Answer.{Answer}
 use Rattle.receiver.specs.declared.Received.{Received}
@@ -52,20 +54,24 @@ bytes-of r m = refl
 quotient : (k n : ℕ) → 21 * k ≡ n → k ≡ n / 21
 quotient k n e = omega arith
 
-module _ (r : Receiver) (l : List ℕ) (un : Bool) (eu : un ≡ untimed r) (active : ℕ) (a : Counted active (r .states)) (run : Run) (u : Arrays) (before after : List ℕ) where
+module _ (r : Receiver) (l : List ℕ) (un : Bool) (eu : un ≡ untimed r) (active : ℕ) (a : Counted active (r .states)) (hl : Bytes l) (run : Run) (u : Arrays) (before after : List ℕ) where
+  ran-of : {wet : Bool} (n : ℕ) → Runs n l un wet (off (r .ignoring)) (r .settings .most) active run (arraysOf r) u before after
+      → (fs : List (Frame Contact)) (rest : List ℕ) → readSeries frameBy false n l ≡ got fs rest → Ran (rulesOf r) (timedFrames un fs) wet (off (r .ignoring)) run (arraysOf r) u before after
+  ran-of {wet} n x fs rest e = ran-as-the-machine-says n l un wet (off (r .ignoring)) (r .settings .most) active run (arraysOf r) u before after x hl fs rest e a
+
   -- ---- counted
 
-  pub tallies : (n : ℕ) → Runs n l un false (off (r .ignoring)) (rulesOf r) active run (arraysOf r) u before after → Tallies r n l (run .records) before after
+  pub tallies : (n : ℕ) → Runs n l un false (off (r .ignoring)) (r .settings .most) active run (arraysOf r) u before after → Tallies r n l (run .records) before after
   tallies n x =
       record {
         small = x .small;
-        count = λ fs rest e. x .ran fs rest e a .records ∙ ap (λ (gs : List (Frame Contact)). length (runBytes touchView (rulesOf r) (machineOf r) gs)) (frames-same r un eu fs);
-        kept = λ fs rest e. x .ran fs rest e a .output .kept refl;
+        count = λ fs rest e. ran-of n x fs rest e .records ∙ ap (λ (gs : List (Frame Contact)). length (runBytes touchView (rulesOf r) (machineOf r) gs)) (frames-same r un eu fs);
+        kept = λ fs rest e. ran-of n x fs rest e .kept refl;
       }
 
   -- ---- carried out
 
-  module _ (h : BodyHead) (x : Runs (h .frames) l un true (off (r .ignoring)) (rulesOf r) active run (arraysOf r) u before after)
+  module _ (h : BodyHead) (x : Runs (h .frames) l un true (off (r .ignoring)) (r .settings .most) active run (arraysOf r) u before after)
       (b i : ℕ) (time : Milliseconds) (answer : Answer)
       (eb : b ≡ begunBy 1 (r .begun) (h .frames)) (ei : i ≡ mark (not (run .running))) (et : time ≡ cond un (record { 0 = 0 }) (h .time)) (ea : answer ≡ answerOfRun run time) where
     -- the receiver after it
@@ -74,7 +80,7 @@ module _ (r : Receiver) (l : List ℕ) (un : Bool) (eu : un ≡ untimed r) (acti
 
     module _ (m : Touch) (rest : List ℕ) (eh : h ≡ bodyHeadOf m) (e : readSeries frameBy false (h .frames) l ≡ got (m .frames) rest) where
       ran : Ran (rulesOf r) (timedFrames (untimed r) (m .frames)) true (off (r .ignoring)) run (arraysOf r) u before after
-      ran = rw (frames-same r un eu (m .frames)) at (x .ran (m .frames) rest e a)
+      ran = rw (frames-same r un eu (m .frames)) at (ran-of (h .frames) x (m .frames) rest e)
 
       receiver-is : after-run ≡ touched r m .receiver
       unfolding touched
@@ -104,7 +110,7 @@ module _ (r : Receiver) (l : List ℕ) (un : Bool) (eu : un ≡ untimed r) (acti
       carried room =
           record {
             answer = λ j. record { receiver = receiver-is j; answer = answer-is j };
-            output = rw (bytes-of r m) (ran .output .written refl (rw (bytes-of r m) at room));
+            output = rw (bytes-of r m) (ran .written refl (rw (bytes-of r m) at room));
           }
 
     pub carries : Carries r h l before (record { receiver = after-run; answer = answer }) after

@@ -1,52 +1,47 @@
--- A run over the frames of a message: what is still to come, from the run as it is, gives what all of it gives from the start.
+-- A run over frames that can be read, from the table's number of active contacts on, is the machine's.
 -- Assumes nothing.
-use Prim.Native.Nat.{ℕ, _+_, _-_, _*_, _≤_, _<_}
-use mathlib.Core.Path.{_≡_, refl, sym, ap, _∙_}
-use mathlib.Core.Bool.{Bool, true, false}
+use Prim.Native.Nat.{ℕ, zero, suc, _+_, _-_, _*_, _≤_}
+use mathlib.Core.Path.{_≡_, refl, sym, ap, subst, _∙_}
+use mathlib.Core.Bool.{Bool, true, false, cond}
 use mathlib.Core.List.{List, [], _∷_, _++_}
 use native.Mathlib.Omega.{arith}
-use native.Mathlib.Nat.{add-assoc}
-use lib.ListN.{length, take, drop, length-append, length-take, length-drop, take-append-drop}
-use borrow.Rule.Slice.PartMut.{midOf, putMid}
-use Rattle.slices.specs.Writing.{laid}
-use Rattle.slices.proofs.Tails.{laidAt, laid-none, tail-is, tail-back, wrote}
+use borrow.Author.Tests.{le-leb}
+use lib.ListN.{length, take, drop, length-append, length-drop, take-append-drop}
+use Rattle.digits.specs.Digits.{Bytes}
+use Rattle.slices.specs.Writing.{laid, bytes, given, left}
+use Rattle.slices.proofs.Laws.{given-room}
+use Rattle.slices.proofs.Tails.{laidAt, laid-none, laid-length, laid-next}
 use Rattle.formats.specs.Format.{got, readSeries}
-use Rattle.formats.proofs.Steps.{tail, series-end}
+use Rattle.formats.proofs.Laws.{more-got}
 use Rattle.fields.specs.Integers.{taken}
+use Rattle.fields.proofs.Laws.{taken-law}
+use Rattle.house.specs.Fields.{recordBytes}
 use Rattle.house.specs.declared.Head.{Head}
 use Rattle.house.specs.declared.Contact.{Contact}
-use Rattle.framing.proofs.Timed.{timed-contacts, timed-none, timed-cons}
 use Rattle.framing.specs.Frame.{Frame, headOf, timedFrame, timedFrames}
-use Rattle.touch.specs.Touch.{contact}
+use Rattle.framing.specs.After.{onRead}
+use Rattle.framing.proofs.Laws.{frame-head-law, frame-law}
+use Rattle.framing.proofs.Reading.{frame-got}
+use Rattle.framing.proofs.Timed.{timed-contacts, timed-none, timed-cons}
+use Rattle.touch.specs.Limits.{touchLimits}
+use Rattle.touch.specs.Touch.{contact, frame}
+use Rattle.touch.proofs.Laws.{contact-law}
 use Rattle.touch.proofs.Passes.{frameBy}
-use Rattle.frame_records.specs.declared.FoundFrame.{FoundFrame}
-use Rattle.frame_records.specs.declared.FoundHead.{FoundHead}
-use Rattle.frame_records.specs.Frames.{FindsHead}
-use Rattle.frame_records.proofs.Finding.{Turn, found-by-head}
-use Rattle.frame_records.proofs.Finding as finding
+use Rattle.frame_records.specs.Frames.{nowhere}
 use Rattle.machine.specs.Rules.{Rules}
-use Rattle.machine.specs.Machine.{Machine, Arrays, arraysIn, inMode, none, plus, countOf, verdict, stepMachine, stepBytes, runMachine, runBytes, runCounts}
+use Rattle.machine.specs.Machine.{Machine, Arrays, inMode, none, plus, countOf, verdict, stepMachine, stepBytes, runMachine, runBytes, runCounts}
 use Rattle.machine.proofs.Machine.{none-plus, plus-none, plus-assoc}
-use Rattle.contacts.specs.Touch.{touchView}
+use Rattle.contacts.specs.Touch.{touchView, touchRules}
 use Rattle.contacts.specs.Ruling.{contactsOf, Counted}
-use Rattle.moves.specs.Moves.{Ends}
-use Rattle.moves.proofs.Moving.{ends-read}
 use Rattle.runs.specs.declared.Run.{Run}
-use Rattle.runs.specs.declared.Stepped.{Stepped}
-use Rattle.runs.specs.Runs.{timedHead, machineIn, countsOf, started, Turned, Steps, Passes, Ran}
+use Rattle.runs.specs.Runs.{timedHead, laidBy, passing, headIn, contactsIn, behind, Underway, onFrame, onFrames, beginning, Runs}
+use Rattle.runs.proofs.Turning.{machineIn, countsOf, Turned, turned}
 
 -- ---- frames as they are written, one by one
 
 timed-head : (untimed : Bool) (f : Frame Contact) → timedHead untimed (headOf f) ≡ headOf (timedFrame untimed f)
 timed-head true f = refl
 timed-head false f = refl
-
-timed-count : (untimed : Bool) (h : Head) → timedHead untimed h .count ≡ h .count
-timed-count true h = refl
-timed-count false h = refl
-
-read-same : (a b : ℕ) (l k t : List ℕ) (cs ds : List Contact) → a ≡ b → l ≡ k → cs ≡ ds → contactsOf b k ≡ got ds t → contactsOf a l ≡ got cs t
-read-same a b l k t cs ds ea el ec e = rw (ea, el, ec) e
 
 -- ---- one more frame
 
@@ -76,129 +71,154 @@ module _ (rules : Rules Contact) (m : Machine) where
   unfolding runCounts
   counts-none = refl
 
--- ---- the run under way: of the frames fs, in whole from the machine m on, those that are left begin at `at`
+-- ---- where a run under way stands after the frames fs: v, from u on
 
-module _ (rules : Rules Contact) (untimed wet : Bool) (l : List ℕ) (m : Machine) (fs : List (Frame Contact)) (end out₀ : List ℕ) where
-  pub record Underway (run : Run) (t : Arrays) (out : List ℕ) (pos at left : ℕ) : Type 0 where
-    pub ahead : List (Frame Contact)
-    pub read : readSeries frameBy false left (drop at l) ≡ got ahead end
-    pub active : Counted (run .active) (t .table .states)
-    pub machine : runMachine touchView rules (machineIn run t) (timedFrames untimed ahead) ≡ runMachine touchView rules m (timedFrames untimed fs)
-    pub counts : plus (countsOf run) (runCounts touchView rules (machineIn run t) (timedFrames untimed ahead)) ≡ runCounts touchView rules m (timedFrames untimed fs)
-    pub records : 21 * run .records + length (runBytes touchView rules (machineIn run t) (timedFrames untimed ahead)) ≡ length (runBytes touchView rules m (timedFrames untimed fs))
-    pub kept : wet ≡ false → out ≡ out₀
-    pub written : wet ≡ true → length (runBytes touchView rules m (timedFrames untimed fs)) ≤ length out₀
-        → (pos ≡ 21 * run .records) × (laidAt out pos (runBytes touchView rules (machineIn run t) (timedFrames untimed ahead)) ≡ laid out₀ (runBytes touchView rules m (timedFrames untimed fs)))
+module _ (rules : Rules Contact) (wet : Bool) where
+  record Went (fs : List (Frame Contact)) (u v : Underway) : Type 0 where
+    machine : machineIn (v .run) (v .arrays) ≡ runMachine touchView rules (machineIn (u .run) (u .arrays)) fs
+    active : Counted (v .run .active) (v .arrays .table .states)
+    counts : countsOf (v .run) ≡ plus (countsOf (u .run)) (runCounts touchView rules (machineIn (u .run) (u .arrays)) fs)
+    records : 21 * v .run .records ≡ 21 * u .run .records + length (runBytes touchView rules (machineIn (u .run) (u .arrays)) fs)
+    kept : wet ≡ false → v .output ≡ u .output
+    written : wet ≡ true → u .place + length (runBytes touchView rules (machineIn (u .run) (u .arrays)) fs) ≤ length (u .output)
+        → v .output ≡ laidAt (u .output) (u .place) (runBytes touchView rules (machineIn (u .run) (u .arrays)) fs)
 
-module _ (rules : Rules Contact) (untimed wet : Bool) (l : List ℕ) (fs : List (Frame Contact)) (end out₀ : List ℕ) where
-  -- at the start all of it is to come
-  pub underway-first : (run : Run) (t : Arrays) (n active : ℕ) (running : Bool) → readSeries frameBy false n l ≡ got fs end → Counted active (t .table .states) → run ≡ started running active
-      → Underway rules untimed wet l (inMode running t) fs end out₀ run t out₀ 0 0 n
-  underway-first run t n active running e a s =
-      rw s (record {
-        ahead = fs;
-        read = e;
-        active = a;
-        machine = refl;
-        counts = none-plus _;
-        records = omega arith;
-        kept = λ w. refl;
-        written = λ w room. (refl, refl);
-      })
-
-  -- at the end none is
-  pub underway-last : (m : Machine) (run : Run) (t : Arrays) (out : List ℕ) (pos at left : ℕ) → Underway rules untimed wet l m fs end out₀ run t out pos at left → left ≤ 0
-      → Ran rules (timedFrames untimed fs) wet (m .running) run (arraysIn m) t out₀ out
-  underway-last m run t out pos at left u h =
-      let e : u .ahead ≡ [] = none-left (u .ahead) (sym (series-end frameBy false left (drop at l) h) ∙ u .read) in
-      let z : timedFrames untimed (u .ahead) ≡ [] = ap (timedFrames untimed) e ∙ timed-none untimed in
-      let b : runBytes touchView rules (machineIn run t) (timedFrames untimed (u .ahead)) ≡ [] = rw z (bytes-none rules (machineIn run t)) in
-      let k : runCounts touchView rules (machineIn run t) (timedFrames untimed (u .ahead)) ≡ none = rw z (counts-none rules (machineIn run t)) in
-      let n = rw b at (u .records) in
+  went-none : (u : Underway) → Counted (u .run .active) (u .arrays .table .states) → Went [] u u
+  went-none u a =
+      let m = machineIn (u .run) (u .arrays) in
       record {
-        machine = sym (rw z (machine-none rules (machineIn run t))) ∙ u .machine;
-        active = u .active;
-        counts = sym (plus-none (countsOf run)) ∙ (rw k at (u .counts));
-        records = omega (arith, n);
-        output = record {
-          kept = u .kept;
-          written = λ w room. sym (laid-none out pos) ∙ (rw b at (u .written w room .1));
-        };
+        machine = sym (machine-none rules m);
+        active = a;
+        counts = sym (ap (plus (countsOf (u .run))) (counts-none rules m) ∙ plus-none (countsOf (u .run)));
+        records = rw (bytes-none rules m) (omega arith);
+        kept = λ e. refl;
+        written = λ e room. sym (ap (laidAt (u .output) (u .place)) (bytes-none rules m) ∙ laid-none (u .output) (u .place));
       }
-    where
-      none-left : (more : List (Frame Contact)) → got [] (drop at l) ≡ got more end → more ≡ []
-      none-left more e = cc
 
-  -- a frame's turn
-  module _ (m : Machine) (run : Run) (r : Stepped) (t v : Arrays) (out : List ℕ) (pos at left : ℕ) (u : Underway rules untimed wet l m fs end out₀ run t out pos at left) (h : 0 < left)
-      (found : FoundHead) (here : FindsHead (take (length l - at) (drop at l)) found) (head : Head) (eh : head ≡ timedHead untimed (found .head)) (part : List ℕ)
-      (s : Steps head (take (length l - (at + found .contacts)) (drop (at + found .contacts) l)) wet rules run r t v (midOf pos (length out - pos) out) part) where
-    abbrev out′ : List ℕ
-    out′ = putMid pos (length out - pos) out part
+  -- the frame f leads from u to w, and the others from there to v
+  module _ (f : Frame Contact) (fs : List (Frame Contact)) (u w v : Underway) (part : List ℕ)
+      (t : Turned rules f wet (u .run) (w .run) (u .arrays) (w .arrays) (drop (u .place) (u .output)) part)
+      (eo : w .output ≡ take (u .place) (u .output) ++ part) (ep : w .place ≡ passing (u .place) (w .run .records - u .run .records) (length (u .output))) (o : Went fs w v) where
+    abbrev m : Machine
+    m = machineIn (u .run) (u .arrays)
 
-    -- the head, where its contacts begin, and where they end
-    abbrev whole : FoundFrame
-    whole = record { head = found .head; contacts = found .contacts; end = found .contacts + r .end }
+    abbrev n : Machine
+    n = machineIn (w .run) (w .arrays)
 
-    same-count : head .count ≡ found .head .count
-    same-count = ap (λ (g : Head). g .count) eh ∙ timed-count untimed (found .head)
+    abbrev B : List ℕ
+    B = stepBytes touchView rules m f
 
-    past : (cs : List Contact) (t : List ℕ) → contactsOf (found .head .count) (drop (at + found .contacts) l) ≡ got cs t → drop (r .end) (drop (at + found .contacts) l) ≡ t
-    past cs t e =
-        let p : Ends (contact taken) (found .head .count) (drop (at + found .contacts) l) (r .end) = rw (same-count, tail l (at + found .contacts)) at (s .passed) in
-        ends-read (contact taken) (found .head .count) (drop (at + found .contacts) l) (r .end) cs t p e
+    abbrev T : List ℕ
+    T = runBytes touchView rules n fs
 
-    next : Turn l at whole (found-by-head l at found (r .end) here past) end left (u .ahead)
-    next = finding.turn l at whole (found-by-head l at found (r .end) here past) end left (u .ahead) h (u .read)
+    all : runBytes touchView rules m (f ∷ fs) ≡ B ++ T
+    all = bytes-cons rules m f fs ∙ ap (λ (k : Machine). B ++ runBytes touchView rules k fs) (sym (t .machine))
 
-    abbrev now : Frame Contact
-    now = timedFrame untimed (next .frame)
+    long : length (runBytes touchView rules m (f ∷ fs)) ≡ length B + length T
+    long = ap length all ∙ length-append B T
 
-    abbrev later : List (Frame Contact)
-    later = timedFrames untimed (next .others)
+    -- wet, and with room for all of it
+    module _ (e : wet ≡ true) (room : u .place + length (runBytes touchView rules m (f ∷ fs)) ≤ length (u .output)) where
+      fits : u .place + length B ≤ length (u .output)
+      fits = omega (arith, room, long)
 
-    turned : Turned rules now wet run (r .run) t v (midOf pos (length out - pos) out) part
-    turned =
-        let a : head ≡ headOf now = eh ∙ ap (timedHead untimed) (next .head) ∙ timed-head untimed (next .frame) in
-        s .turned now (drop (at + (found .contacts + r .end)) l) a (read-same _ _ _ _ _ _ _ same-count (tail l (at + found .contacts)) (timed-contacts untimed (next .frame)) (next .contacts)) (u .active)
+      part-is : part ≡ laid (drop (u .place) (u .output)) B
+      part-is =
+          let d = drop (u .place) (u .output) in
+          t .output ∙ ap (λ (b : Bool). cond b (left d (given (length d) (bytes B))) d) e ∙ ap (left d) (given-room B (length d) (rw length-drop (omega (arith, fits))))
 
-    all : timedFrames untimed (u .ahead) ≡ now ∷ later
-    all = ap (timedFrames untimed) (next .all) ∙ timed-cons untimed (next .frame) (next .others)
+      output-is : w .output ≡ laidAt (u .output) (u .place) B
+      output-is = eo ∙ ap (λ (s : List ℕ). take (u .place) (u .output) ++ s) part-is
 
-    bytes : runBytes touchView rules (machineIn run t) (timedFrames untimed (u .ahead)) ≡ stepBytes touchView rules (machineIn run t) now ++ runBytes touchView rules (machineIn (r .run) v) later
-    bytes = rw (all, turned .machine) (bytes-cons rules (machineIn run t) now later)
+      place-is : w .place ≡ u .place + length B
+      place-is =
+          let k : 21 * (w .run .records - u .run .records) ≡ length B = omega (arith, t .records) in
+          ep ∙ rw (k, le-leb (length B) (length (u .output) - u .place) (omega (arith, fits)))
 
-    long : 21 * run .records + length (stepBytes touchView rules (machineIn run t) now) + length (runBytes touchView rules (machineIn (r .run) v) later) ≡ length (runBytes touchView rules m (timedFrames untimed fs))
-    long = let e = rw (bytes, length-append) at (u .records) in omega (arith, e)
+      all-written : v .output ≡ laidAt (u .output) (u .place) (runBytes touchView rules m (f ∷ fs))
+      all-written =
+          let g = laid-length (u .output) B (u .place) fits in
+          let r : w .place + length T ≤ length (w .output) = rw (place-is, output-is, g) (omega (arith, room, long)) in
+          o .written e r
+          ∙ (λ i. laidAt (output-is i) (place-is i) T) ∙ laid-next (u .output) B T (u .place) (length B) refl fits
+          ∙ ap (laidAt (u .output) (u .place)) (sym all)
 
-    pub underway-next : (pos′ : ℕ) → length out ≡ length out₀ → Passes pos (r .run .records - run .records) (length out′) pos′
-        → length out′ ≡ length out
-        → Underway rules untimed wet l m fs end out₀ (r .run) v out′ pos′ (at + found .contacts + r .end) (left - 1)
-    underway-next pos′ lo p lo′ =
+    went-cons : Went (f ∷ fs) u v
+    went-cons =
         record {
-          ahead = next .others;
-          read = rw (add-assoc at (found .contacts) (r .end)) (next .after);
-          active = turned .active;
-          machine = rw (turned .machine) (sym (machine-cons rules (machineIn run t) now later) ∙ sym (ap (runMachine touchView rules (machineIn run t)) all) ∙ u .machine);
+          machine = o .machine ∙ ap (λ (k : Machine). runMachine touchView rules k fs) (t .machine) ∙ sym (machine-cons rules m f fs);
+          active = o .active;
           counts =
-              rw (turned .counts, turned .machine)
-              (plus-assoc (countsOf run) _ _ ∙ ap (plus (countsOf run)) (sym (rw all (counts-cons rules (machineIn run t) now later))) ∙ u .counts);
-          records = omega (arith, turned .records, long);
-          kept = λ w. tail-back out part pos ∙ rw (turned .output .kept w, tail-is out pos) (take-append-drop pos out ∙ u .kept w);
-          written = λ w room. go (u .written w room .0) (u .written w room .1) w room;
+              o .counts ∙ ap (λ k. plus k (runCounts touchView rules n fs)) (t .counts) ∙ plus-assoc (countsOf (u .run)) _ _
+              ∙ ap (plus (countsOf (u .run))) (ap (λ (k : Machine). plus (countOf (verdict touchView rules m (f .contacts))) (runCounts touchView rules k fs)) (t .machine) ∙ sym (counts-cons rules m f fs));
+          records = omega (arith, o .records, t .records, long);
+          kept = λ e.
+              o .kept e ∙ eo
+              ∙ ap (λ (s : List ℕ). take (u .place) (u .output) ++ s) (t .output ∙ ap (λ (b : Bool). laidBy b (bytes B) (drop (u .place) (u .output))) e)
+              ∙ take-append-drop (u .place) (u .output);
+          written = all-written;
         }
-      where
-        go : pos ≡ 21 * run .records → laidAt out pos (runBytes touchView rules (machineIn run t) (timedFrames untimed (u .ahead))) ≡ laid out₀ (runBytes touchView rules m (timedFrames untimed fs))
-            → wet ≡ true → length (runBytes touchView rules m (timedFrames untimed fs)) ≤ length out₀
-            → (pos′ ≡ 21 * r .run .records) × (laidAt out′ pos′ (runBytes touchView rules (machineIn (r .run) v) later) ≡ laid out₀ (runBytes touchView rules m (timedFrames untimed fs)))
-        go ep el w room =
-            let B = stepBytes touchView rules (machineIn run t) now in
-            let T = runBytes touchView rules (machineIn (r .run) v) later in
-            let lg = long in
-            let rc = turned .records in
-            let mr = s .more in
-            let mid : length (midOf pos (length out - pos) out) ≡ length out - pos = simp (length-take, length-drop) (omega arith) in
-            let rm : pos + length (B ++ T) ≤ length out = simp length-append (omega arith) in
-            let x = wrote out pos (length B) part B T (turned .output .written w (omega arith)) refl rm in
-            let q : pos′ ≡ pos + length B = p .behind (omega arith) ∙ omega arith in
-            (omega arith, rw q (x .same ∙ rw (← bytes) el))
+
+-- ---- the frames at the front of l
+
+module _ (untimed wet : Bool) (most : ℕ) where
+  abbrev Leads : ℕ → Type 0
+  Leads n = (l : List ℕ) (u : Underway) (fs : List (Frame Contact)) (rest : List ℕ) → Bytes l → Counted (u .run .active) (u .arrays .table .states) → readSeries frameBy false n l ≡ got fs rest
+      → Went (touchRules most) wet (timedFrames untimed fs) u (onFrames untimed wet most n l u)
+
+  one-more : (n : ℕ) → Leads n → Leads (suc n)
+  unfolding onFrames
+  one-more n leads l u fs rest hl a e =
+      let x = more-got (frame taken) false n l fs rest e in
+      let f = x .head in
+      let now = timedFrame untimed f in
+      let later = timedFrames untimed (x .rest) in
+      let r = frame-got taken touchLimits (contact taken) false l f (x .after) (x .one) in
+      let hr : Bytes (r .after) = frame-head-law taken taken-law touchLimits false .sound l (headOf f) (r .after) hl (r .head) .1 in
+      let hx : Bytes (x .after) = frame-law taken taken-law touchLimits (contact taken) (contact-law taken taken-law) false .sound l f (x .after) hl (x .one) .1 in
+      let head : Head = headOf now in
+      let eh : timedHead untimed (headIn l) ≡ head = ap (λ y. timedHead untimed (onRead (nowhere .head) (λ g t. g) y)) (r .head) ∙ timed-head untimed f in
+      let ec : contactsIn l ≡ r .after = ap (onRead l (λ g t. t)) (r .head) in
+      let eb : behind (headIn l .count) (contactsIn l) ≡ x .after =
+      (λ i. behind (onRead (nowhere .head) (λ g t. g) (r .head i) .count) (ec i)) ∙ ap (onRead (r .after) (λ cs t. t)) (r .contacts) in
+      let en : contactsOf (head .count) (r .after) ≡ got (now .contacts) (x .after) = rw (timed-contacts untimed f) (r .contacts) in
+      let w = onFrame untimed wet most head (r .after) u in
+      let t = turned head (r .after) wet most (u .run) (u .arrays) (drop (u .place) (u .output)) now (x .after) refl en a hr in
+      let o = leads (x .after) w (x .rest) rest hx (t .active) (x .others) in
+      let k : timedFrames untimed fs ≡ now ∷ later = ap (timedFrames untimed) (x .all) ∙ timed-cons untimed f (x .rest) in
+      let z : onFrames untimed wet most n (x .after) w ≡ onFrames untimed wet most n (behind (headIn l .count) (contactsIn l)) (onFrame untimed wet most (timedHead untimed (headIn l)) (contactsIn l) u) =
+      sym (λ i. onFrames untimed wet most n (eb i) (onFrame untimed wet most (eh i) (ec i) u)) in
+      let v : Went (touchRules most) wet (timedFrames untimed fs) u (onFrames untimed wet most n (x .after) w) = subst (λ gs. Went (touchRules most) wet gs u (onFrames untimed wet most n (x .after) w)) (sym k) (went-cons (touchRules most) wet now later u w _ _ t refl refl o) in
+      subst (Went (touchRules most) wet (timedFrames untimed fs) u) z v
+
+  frames-went : (n : ℕ) → Leads n
+  unfolding onFrames readSeries
+  frames-went zero l u fs rest hl a e =
+      let z : fs ≡ [] = cc in
+      subst (λ gs. Went (touchRules most) wet gs u u) (sym (ap (timedFrames untimed) z ∙ timed-none untimed)) (went-none (touchRules most) wet u a)
+  frames-went (suc n) l u fs rest hl a e = one-more n (frames-went n) l u fs rest hl a e
+
+-- ---- the contract's outcome, of frames fs that can be read; of the output, where nothing is to be written or there is room for all
+
+pub record Ran (rules : Rules Contact) (fs : List (Frame Contact)) (wet running : Bool) (r : Run) (a b : Arrays) (before after : List ℕ) : Type 0 where
+  pub machine : machineIn r b ≡ runMachine touchView rules (inMode running a) fs
+  pub active : Counted (r .active) (b .table .states)
+  pub counts : countsOf r ≡ runCounts touchView rules (inMode running a) fs
+  pub records : recordBytes * r .records ≡ length (runBytes touchView rules (inMode running a) fs)
+  pub kept : wet ≡ false → after ≡ before
+  pub written : wet ≡ true → length (runBytes touchView rules (inMode running a) fs) ≤ length before → after ≡ laid before (runBytes touchView rules (inMode running a) fs)
+
+pub ran-as-the-machine-says : (n : ℕ) (l : List ℕ) (untimed wet running : Bool) (most active : ℕ) (r : Run) (a b : Arrays) (before after : List ℕ)
+    → Runs n l untimed wet running most active r a b before after → Bytes l
+    → (fs : List (Frame Contact)) (rest : List ℕ) → readSeries frameBy false n l ≡ got fs rest → Counted active (a .table .states)
+    → Ran (touchRules most) (timedFrames untimed fs) wet running r a b before after
+ran-as-the-machine-says n l untimed wet running most active r a b before after x hl fs rest e k =
+    let w = frames-went untimed wet most n l (beginning running active a before) fs rest hl k e in
+    record {
+      machine = (λ i. machineIn (x .run i) (x .arrays i)) ∙ w .machine;
+      active = rw (x .run, x .arrays) (w .active);
+      counts = ap countsOf (x .run) ∙ w .counts ∙ none-plus _;
+      records = ap (λ (q : Run). 21 * q .records) (x .run) ∙ omega (arith, w .records);
+      kept = λ d. x .output ∙ w .kept d;
+      written = λ d room. x .output ∙ w .written d (omega (arith, room));
+    }

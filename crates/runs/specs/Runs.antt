@@ -1,27 +1,30 @@
 -- What this crate's calls answer: of one frame, and of the frames of a message, one after the other, written or only counted.
-use Prim.Native.Nat.{ℕ, _+_, _*_, _≤_, _<_}
+use Prim.Native.Nat.{ℕ, zero, suc, _+_, _-_, _*_, _≤_, _<_}
 use mathlib.Core.Path.{_≡_}
 use mathlib.Core.Bool.{Bool, true, false, cond}
-use mathlib.Core.List.{List, _++_}
-use lib.ListN.{length}
-use Rattle.slices.specs.Writing.{laid}
-use Rattle.formats.specs.Format.{Got, got, readSeries}
+use mathlib.Core.List.{List, [], _++_}
+use lib.Dec.{leb}
+use lib.ListN.{length, take, drop}
+use Rattle.slices.specs.Writing.{laid, Draft, bytes, given, left}
+use Rattle.formats.specs.Format.{Got}
 use Rattle.fields.specs.Integers.{taken}
-use Rattle.house.specs.Layout.{headBytes}
+use Rattle.states.specs.Table.{next}
 use Rattle.house.specs.Fields.{recordBytes}
 use Rattle.house.specs.declared.Head.{Head}
 use Rattle.house.specs.declared.Contact.{Contact}
-use Rattle.framing.specs.Frame.{Frame, headOf, timedFrames, contactsBytes}
-use Rattle.touch.specs.Touch.{contact, frame, touchRecord}
+use Rattle.framing.specs.After.{onRead, afterRead}
+use Rattle.touch.specs.Touch.{contact, frameHead}
+use Rattle.frame_records.specs.Frames.{recordsRead, frameDraft, nowhere}
 use Rattle.machine.specs.Table.{Table, resting}
-use Rattle.machine.specs.Rules.{Rules}
-use Rattle.machine.specs.Held.{nobody, activeIds}
-use Rattle.machine.specs.Machine.{Machine, Arrays, inMode, isJudged, Counts, plus, countOf, verdict, cancels, stepMachine, stepBytes, runMachine, runBytes, runCounts}
+use Rattle.machine.specs.Conforms.{moved}
+use Rattle.machine.specs.Held.{nobody, activeIds, withListing}
+use Rattle.machine.specs.Machine.{Arrays, cancels}
 use Rattle.contacts.specs.Touch.{touchView}
-use Rattle.contacts.specs.Ruling.{contactsOf, ofRead, rulingOf, unread, Counted}
+use Rattle.contacts.specs.Ruling.{contactsOf, judgedFrom, rulingBy}
 use Rattle.contacts.specs.declared.Ruling.{Ruling}
+use Rattle.contacts.specs.declared.Ruling.the-variants as Ruling
 use Rattle.moves.specs.Moves.{Ends, Applies}
-use Rattle.openings.specs.Openings.{Lists}
+use Rattle.openings.specs.Openings.{judgedAmong, Lists}
 use Rattle.runs.specs.declared.Run.{Run}
 use Rattle.runs.specs.declared.Stepped.{Stepped}
 
@@ -32,30 +35,20 @@ timedHead untimed h = cond untimed (record { count = h .count; offset = record {
 
 -- ---- what is written
 
--- the bytes s: nothing where a run is dry; at the front of the output where it is wet and there is room
-pub record Lays (wet : Bool) (s before after : List ℕ) : Type 0 where
-  pub kept : wet ≡ false → after ≡ before
-  pub written : wet ≡ true → length s ≤ length before → after ≡ laid before s
-
-abbrev pub LaysFrame : Bool → Head → List ℕ → List ℕ → List ℕ → Type 0
-LaysFrame wet head l before after = (cs : List Contact) (t : List ℕ) → contactsOf (head .count) l ≡ got cs t → Lays wet (headBytes head ++ contactsBytes touchRecord cs) before after
+-- what a run leaves of an output: nothing is touched where it is dry; where it is wet, what a draft leaves in the room that there is
+abbrev pub laidBy : Bool → Draft → List ℕ → List ℕ
+laidBy wet d before = cond wet (left before (given (length before) d)) before
 
 -- of n contacts, where there is room for their records: the table as they leave it, and their records
 pub record CarriesContacts (n : ℕ) (l : List ℕ) (end : ℕ) (t u : Table) (before after : List ℕ) : Type 0 where
   pub table : Applies (contact taken) n l end t u
-  pub output : (cs : List Contact) (rest : List ℕ) → contactsOf n l ≡ got cs rest → after ≡ laid before (contactsBytes touchRecord cs)
+  pub output : after ≡ laid before (recordsRead n [] l)
 
 pub record CarriesFrame (wet : Bool) (head : Head) (l : List ℕ) (end : ℕ) (t u : Table) (before after : List ℕ) : Type 0 where
   pub table : Applies (contact taken) (head .count) l end t u
-  pub output : LaysFrame wet head l before after
+  pub output : after ≡ laidBy wet (frameDraft (length before) head l) before
 
 -- ---- a run so far
-
-abbrev pub machineIn : Run → Arrays → Machine
-machineIn r a = inMode (r .running) a
-
-abbrev pub countsOf : Run → Counts
-countsOf r = record { injected = r .injected; ignored = r .ignored; cancelled = r .cancelled }
 
 -- how many frames it has come over
 abbrev pub framesPassed : Run → ℕ
@@ -77,12 +70,28 @@ abbrev pub cancelledRun : Run → Run
 cancelledRun r =
     record { running = false; active = 0; injected = r .injected; ignored = r .ignored; cancelled = r .cancelled + 1; records = r .records + r .active }
 
--- ---- one frame
+-- ---- one frame, of its head and the bytes l from its first contact on
 
--- what becomes of it, of contacts that are read as x; the number of active contacts is to be the table's
-abbrev pub RulesOn : Rules Contact → Machine → ℕ → Got (List Contact) → Ruling → Type 0
-RulesOn rules m active x r =
-    Counted active (m .table .states) → r ≡ ofRead (unread (m .running)) (λ cs. rulingOf (isJudged touchView m cs) rules (m .table) cs) x
+-- what becomes of it, of contacts that are read as x
+abbrev pub rulingOn : ℕ → Run → Arrays → Got (List Contact) → Ruling
+rulingOn most run a x = rulingBy (judgedAmong (run .running) (a .held) x) (judgedFrom most (run .active) (a .table) x)
+
+-- what it leaves by its ruling: of the run, of the arrays, and what it would write
+abbrev pub runAfter : Ruling → ℕ → Run → Run
+runAfter (Ruling.Injected k) n run = injectedRun run n k
+runAfter Ruling.Ignored n run = ignoredRun run
+runAfter Ruling.Cancelled n run = cancelledRun run
+
+abbrev pub arraysAfter : Ruling → ℕ → List ℕ → Bool → Arrays → Arrays
+arraysAfter (Ruling.Injected k) n l running a =
+    record { table = afterRead (moved touchView next) (contact taken) n (a .table) l; held = cond running (a .held) nobody }
+arraysAfter Ruling.Ignored n l running a = record { table = a .table; held = afterRead (withListing touchView) (contact taken) n (a .held) l }
+arraysAfter Ruling.Cancelled n l running a = record { table = resting; held = afterRead (withListing touchView) (contact taken) n (activeIds (a .table)) l }
+
+abbrev pub draftAfter : Ruling → ℕ → Head → List ℕ → Table → Draft
+draftAfter (Ruling.Injected k) room head l t = frameDraft room head l
+draftAfter Ruling.Ignored room head l t = bytes []
+draftAfter Ruling.Cancelled room head l t = bytes (cancels touchView t)
 
 pub record Injects (head : Head) (active : ℕ) (l : List ℕ) (wet : Bool) (run : Run) (r : Stepped) (a b : Arrays) (before after : List ℕ) : Type 0 where
   pub answer : r .run ≡ injectedRun run (head .count) active
@@ -99,47 +108,77 @@ pub record Cancels (n : ℕ) (l : List ℕ) (wet : Bool) (run : Run) (r : Steppe
   pub small : run .active < 65536
   pub table : b .table ≡ resting
   pub held : Lists n l (r .end) (activeIds (a .table)) (b .held)
-  pub output : Lays wet (cancels touchView (a .table)) before after
+  pub output : after ≡ laidBy wet (bytes (cancels touchView (a .table))) before
 
--- a frame f, after which the arrays are b
-pub record Turned (rules : Rules Contact) (f : Frame Contact) (wet : Bool) (run r : Run) (a b : Arrays) (before after : List ℕ) : Type 0 where
-  pub machine : machineIn r b ≡ stepMachine touchView rules (machineIn run a) f
-  pub active : Counted (r .active) (b .table .states)
-  pub counts : countsOf r ≡ plus (countsOf run) (countOf (verdict touchView rules (machineIn run a) (f .contacts)))
-  pub records : recordBytes * r .records ≡ recordBytes * run .records + length (stepBytes touchView rules (machineIn run a) f)
-  pub output : Lays wet (stepBytes touchView rules (machineIn run a) f) before after
-
--- the frame of a head whose contacts are at the front of l; the bounds hold whatever is read
-pub record Steps (head : Head) (l : List ℕ) (wet : Bool) (rules : Rules Contact) (run : Run) (r : Stepped) (a b : Arrays) (before after : List ℕ) : Type 0 where
+-- a frame with the ruling g, and bounds that hold whatever it is
+pub record Steps (g : Ruling) (head : Head) (l : List ℕ) (wet : Bool) (run : Run) (r : Stepped) (a b : Arrays) (before after : List ℕ) : Type 0 where
   pub frames : framesPassed (r .run) ≤ framesPassed run + 1
-  pub more : run .records ≤ r .run .records
   pub small : r .run .records ≤ run .records + 65536
+  pub more : run .records ≤ r .run .records
+  pub answer : r .run ≡ runAfter g (head .count) run
+  pub arrays : b ≡ arraysAfter g (head .count) l (run .running) a
+  pub output : after ≡ laidBy wet (draftAfter g (length before) head l (a .table)) before
   pub passed : Ends (contact taken) (head .count) l (r .end)
-  pub turned : (f : Frame Contact) (rest : List ℕ) → head ≡ headOf f → contactsOf (head .count) l ≡ got (f .contacts) rest → Counted (run .active) (a .table .states)
-      → Turned rules f wet run (r .run) a b before after
 
 -- ---- the frames of a message
 
 -- the place behind so many records, where the room reaches so far
-pub record Passes (pos records room r : ℕ) : Type 0 where
-  pub inside : r ≤ room
-  pub behind : pos + recordBytes * records ≤ room → r ≡ pos + recordBytes * records
+abbrev pub passing : ℕ → ℕ → ℕ → ℕ
+passing place records room = cond (leb (recordBytes * records) (room - place)) (place + recordBytes * records) place
 
--- the frames fs, from a mode and the arrays a on
-pub record Ran (rules : Rules Contact) (fs : List (Frame Contact)) (wet running : Bool) (r : Run) (a b : Arrays) (before after : List ℕ) : Type 0 where
-  pub machine : machineIn r b ≡ runMachine touchView rules (inMode running a) fs
-  pub active : Counted (r .active) (b .table .states)
-  pub counts : countsOf r ≡ runCounts touchView rules (inMode running a) fs
-  pub records : recordBytes * r .records ≡ length (runBytes touchView rules (inMode running a) fs)
-  pub output : Lays wet (runBytes touchView rules (inMode running a) fs) before after
+pub record Passes (place records room r : ℕ) : Type 0 where
+  pub same : r ≡ passing place records room
+  pub inside : r ≤ room
+
+-- the head of the frame at the front of l, and what is behind it; a head that cannot be read is one of no contact, and nothing is passed
+abbrev pub headIn : List ℕ → Head
+headIn l = onRead (nowhere .head) (λ h t. h) (frameHead taken false .read l)
+
+abbrev pub contactsIn : List ℕ → List ℕ
+contactsIn l = onRead l (λ h t. t) (frameHead taken false .read l)
+
+-- what is behind n contacts; where they cannot all be read nothing is passed
+abbrev pub behind : ℕ → List ℕ → List ℕ
+behind n l = onRead l (λ cs t. t) (contactsOf n l)
+
+-- a run under way: what it has come to, the arrays, the output, and the place in it where the next record goes
+pub record Underway : Type 0 where
+  pub run : Run
+  pub arrays : Arrays
+  pub output : List ℕ
+  pub place : ℕ
+
+-- .. after a frame with the ruling g: it writes at the place, which goes behind as many records as it gives
+abbrev pub underwayAfter : Bool → Ruling → Head → List ℕ → Underway → Underway
+underwayAfter wet g head l u =
+    record {
+      run = runAfter g (head .count) (u .run);
+      arrays = arraysAfter g (head .count) l (u .run .running) (u .arrays);
+      output = take (u .place) (u .output) ++ laidBy wet (draftAfter g (length (drop (u .place) (u .output))) head l (u .arrays .table)) (drop (u .place) (u .output));
+      place = passing (u .place) (runAfter g (head .count) (u .run) .records - u .run .records) (length (u .output));
+    }
+
+module _ (untimed wet : Bool) (most : ℕ) where
+  -- a frame, ruled as the run stands
+  abbrev pub onFrame : Head → List ℕ → Underway → Underway
+  onFrame head l u = underwayAfter wet (rulingOn most (u .run) (u .arrays) (contactsOf (head .count) l)) head l u
+
+  -- the n frames at the front of l, one after the other
+  unfoldable pub onFrames : ℕ → List ℕ → Underway → Underway
+  onFrames zero l u = u
+  onFrames (suc n) l u = onFrames n (behind (headIn l .count) (contactsIn l)) (onFrame (timedHead untimed (headIn l)) (contactsIn l) u)
 
 -- no more records than these, whatever is read: of 255 frames at most, each gives at most 65536
 abbrev pub mostRecords : ℕ
 mostRecords = 16711680
 
--- THE CONTRACT OF A RUN over the n frames at the front of l, where they can be read and the number of active contacts is the table's. Of others
--- only the bound is said.
-pub record Runs (n : ℕ) (l : List ℕ) (untimed wet running : Bool) (rules : Rules Contact) (active : ℕ) (r : Run) (a b : Arrays) (before after : List ℕ) : Type 0 where
+-- where a run begins
+abbrev pub beginning : Bool → ℕ → Arrays → List ℕ → Underway
+beginning running active a before = record { run = started running active; arrays = a; output = before; place = 0 }
+
+-- THE CONTRACT OF A RUN over the n frames at the front of l, whatever bytes they are
+pub record Runs (n : ℕ) (l : List ℕ) (untimed wet running : Bool) (most active : ℕ) (r : Run) (a b : Arrays) (before after : List ℕ) : Type 0 where
   pub small : r .records ≤ mostRecords
-  pub ran : (fs : List (Frame Contact)) (rest : List ℕ) → readSeries (λ b. frame taken b .read) false n l ≡ got fs rest → Counted active (a .table .states)
-      → Ran rules (timedFrames untimed fs) wet running r a b before after
+  pub run : r ≡ onFrames untimed wet most n l (beginning running active a before) .run
+  pub arrays : b ≡ onFrames untimed wet most n l (beginning running active a before) .arrays
+  pub output : after ≡ onFrames untimed wet most n l (beginning running active a before) .output

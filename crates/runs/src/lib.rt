@@ -6,7 +6,6 @@ use house::Head;
 use paper::Microseconds;
 ghost use Prim.Native.Nat.{_+_, _*_, _≤_};
 ghost use mathlib.Core.Path.{_≡_};
-ghost use Rattle.contacts.specs.Touch.{touchRules};
 ghost use Rattle.contacts.specs.Ruling.{arraysFrom};
 ghost use Rattle.runs.specs.Runs.{timedHead, started, Passes, Runs};
 
@@ -81,7 +80,7 @@ pub fn run_frames(
     ys: &mut [i32; 256],
     held: &mut [u8; 256],
 ) -> Run
-    ensures { λ r. ⌜ Runs n (now (frames .entry)) untimed wet running (touchRules most) active r (arraysFrom (now (states .entry)) (now (xs .entry)) (now (ys .entry)) (now (held .entry))) (arraysFrom (now (states .exit)) (now (xs .exit)) (now (ys .exit)) (now (held .exit))) (now (out .entry)) (now (out .exit)) ⌝ }
+    ensures { λ r. ⌜ Runs n (now (frames .entry)) untimed wet running most active r (arraysFrom (now (states .entry)) (now (xs .entry)) (now (ys .entry)) (now (held .entry))) (arraysFrom (now (states .exit)) (now (xs .exit)) (now (ys .exit)) (now (held .exit))) (now (out .entry)) (now (out .exit)) ⌝ }
 {
     let mut run = start(running, active);
     let mut pos: usize = 0;

@@ -7,11 +7,12 @@ use house::Head;
 ghost use Prim.Native.Nat.{_+_, _≤_, _<_};
 ghost use mathlib.Core.Path.{_≡_};
 ghost use mathlib.Core.Bool.{cond};
+ghost use Rattle.slices.specs.Writing.{bytes};
 ghost use Rattle.machine.specs.Held.{nobody};
 ghost use Rattle.machine.specs.Machine.{cancels};
-ghost use Rattle.contacts.specs.Touch.{touchView, touchRules};
+ghost use Rattle.contacts.specs.Touch.{touchView};
 ghost use Rattle.contacts.specs.Ruling.{contactsOf, tableFrom, arraysFrom};
-ghost use Rattle.runs.specs.Runs.{machineIn, framesPassed, Lays, RulesOn, Injects, Ignores, Cancels, Steps};
+ghost use Rattle.runs.specs.Runs.{laidBy, framesPassed, rulingOn, Injects, Ignores, Cancels, Steps};
 
 // The set is emptied when a frame opens; while running it is not looked at.
 fn empty(running: bool, held: &mut [u8; 256])
@@ -57,7 +58,7 @@ fn inject(
 
 // A cancel for each active contact, where they are to be written.
 fn write_cancelled(out: &mut [u8], wet: bool, states: &[u8; 256], xs: &[i32; 256], ys: &[i32; 256])
-    ensures { λ _. ⌜ Lays wet (cancels touchView (tableFrom (now (states .entry)) (now (xs .entry)) (now (ys .entry)))) (now (out .entry)) (now (out .exit)) ⌝ }
+    ensures { λ _. ⌜ now (out .exit) ≡ laidBy wet (bytes (cancels touchView (tableFrom (now (states .entry)) (now (xs .entry)) (now (ys .entry))))) (now (out .entry)) ⌝ }
 {
     if wet {
         moves::write_cancels(out, states, xs, ys);
@@ -127,7 +128,7 @@ fn ruling_on(
     ys: &[i32; 256],
     held: &[u8; 256],
 ) -> Ruling
-    ensures { λ r. ⌜ RulesOn (touchRules most) (machineIn run (arraysFrom (now (states .entry)) (now (xs .entry)) (now (ys .entry)) (now (held .entry)))) (run .active) (contactsOf n (now (rest .entry))) r ⌝ }
+    ensures { λ r. ⌜ r ≡ rulingOn most run (arraysFrom (now (states .entry)) (now (xs .entry)) (now (ys .entry)) (now (held .entry))) (contactsOf n (now (rest .entry))) ⌝ }
 {
     let judged = openings::is_judged(run.running, rest, n, held);
     contacts::verdict_of(judged, rest, n, states, xs, ys, most, run.active)
@@ -147,7 +148,7 @@ pub(crate) fn step(
     held: &mut [u8; 256],
 ) -> Stepped
     requires { ⌜ (framesPassed run < 255) × (run .records ≤ 4294967296) ⌝ }
-    ensures { λ r. ⌜ Steps head (now (rest .entry)) wet (touchRules most) run r (arraysFrom (now (states .entry)) (now (xs .entry)) (now (ys .entry)) (now (held .entry))) (arraysFrom (now (states .exit)) (now (xs .exit)) (now (ys .exit)) (now (held .exit))) (now (out .entry)) (now (out .exit)) ⌝ }
+    ensures { λ r. ⌜ Steps (rulingOn most run (arraysFrom (now (states .entry)) (now (xs .entry)) (now (ys .entry)) (now (held .entry))) (contactsOf (head .count) (now (rest .entry)))) head (now (rest .entry)) wet run r (arraysFrom (now (states .entry)) (now (xs .entry)) (now (ys .entry)) (now (held .entry))) (arraysFrom (now (states .exit)) (now (xs .exit)) (now (ys .exit)) (now (held .exit))) (now (out .entry)) (now (out .exit)) ⌝ }
 {
     let n = head.count as usize;
     let ruling = ruling_on(run, rest, head.count, most, states, xs, ys, held);

@@ -1,22 +1,14 @@
--- `runs::run_frames` meets its contract. The loop keeps: the run is under way, of whatever frames can be read.
+-- `runs::run_frames` meets its contract. The loop keeps: the frames that are left lead from the run as it is where all lead from its beginning.
 -- Assumes nothing.
 use borrow.Author.Needs.{needs}
-use Prim.Native.Nat.{ℕ, _+_, _-_, _*_, _^_, _≤_, _<_}
-use mathlib.Core.Path.{_≡_, refl, _∙_}
-use mathlib.Core.Bool.{false}
-use mathlib.Core.List.{List}
+use Prim.Native.Nat.{_+_, _-_, _*_, _^_, _≤_, _<_}
+use mathlib.Core.Path.{_≡_, refl, sym, ap, _∙_}
 use native.Mathlib.Omega.{arith}
 use lib.ListN.{length, take, drop, length-drop}
-use Rattle.formats.specs.Format.{got, readSeries}
 use Rattle.formats.proofs.Steps.{tail}
-use Rattle.house.specs.declared.Contact.{Contact}
-use Rattle.framing.specs.Frame.{Frame}
-use Rattle.touch.proofs.Passes.{frameBy}
-use Rattle.contacts.specs.Touch.{touchRules}
-use Rattle.machine.specs.Machine.{inMode}
-use Rattle.contacts.specs.Ruling.{arraysFrom, Counted}
-use Rattle.runs.specs.Runs.{framesPassed, mostRecords}
-use Rattle.runs.proofs.Running.{Underway, underway-first, underway-next, underway-last}
+use Rattle.contacts.specs.Ruling.{arraysFrom}
+use Rattle.runs.specs.Runs.{framesPassed, mostRecords, Underway, onFrames, beginning}
+use Rattle.runs.proofs.Frames.{frames-end, frames-next}
 use Rattle.runs.proofs.run_frames.Statement.{statement}
 use Rattle.runs.proofs.run_frames.Tie as tie
 
@@ -27,8 +19,8 @@ Inv-loop out₀ wet frames n untimed most running active states₀ xs₀ ys₀ h
     × (length out ≡ length out₀)
     × (framesPassed run + left ≤ 255)
     × (run .records + 65536 * left ≤ mostRecords)
-    × ((fs : List (Frame Contact)) (end : List ℕ) → readSeries frameBy false n frames ≡ got fs end → Counted active states₀
-    → Underway (touchRules most) untimed wet frames (inMode running (arraysFrom states₀ xs₀ ys₀ held₀)) fs end out₀ run (arraysFrom states xs ys held) out pos at left)
+    × (onFrames untimed wet most left (drop at frames) (record { run = run; arrays = arraysFrom states xs ys held; output = out; place = pos })
+    ≡ onFrames untimed wet most n frames (beginning running active (arraysFrom states₀ xs₀ ys₀ held₀) out₀))
 
 abbrev μ-loop : tie.MeasureT-loop
 μ-loop out₀ wet frames n untimed most running active states₀ xs₀ ys₀ held₀ run₀ pos₀ at₀ left₀ out states xs ys held run pos at left = left
@@ -44,7 +36,7 @@ loop-holds c =
       refl,
       rw (c .start .ensures) (omega arith),
       rw (c .start .ensures) (omega arith),
-      λ fs end e k. underway-first (touchRules (a .most)) (a .untimed) (a .wet) _ fs end _ _ _ (a .n) (a .active) (a .running) e k (c .start .ensures),
+      ap (λ r. onFrames (a .untimed) (a .wet) (a .most) (a .n) (a .frames .now) (record { run = r; arrays = arraysFrom (a .states .now) (a .xs .now) (a .ys .now) (a .held .now); output = a .out .now; place = 0 })) (c .start .ensures),
     )
 
 sub-find-head : tie.Need-sub-find-head Inv-loop μ-loop
@@ -125,17 +117,21 @@ pass-requires c κs =
     let p = s .before .before .before .before .before .before .before .before .before .before .before .before in
     (omega (arith, o .out .given .1, p .loop .inv .1), omega (arith, s .step .ensures .small))
 
+-- where the tail came back that was lent to a step
+abbrev returned : tie.After-struct-known3 Inv-loop μ-loop → tie.After-out Inv-loop μ-loop
+returned c = c .before .before .before .before .before
+
 add-at-2 : tie.Need-add-at-2 Inv-loop μ-loop
 add-at-2 c =
-    let s = c .before .before .before .before .before .before in
+    let s = returned c .before in
     let k = s .before .before .before .before .before .before .before in
     omega (arith, begins k, ends s, short (k .before .before .before .before .before .before))
 
 -- a frame was left
 turning : (c : tie.After-struct-known3 Inv-loop μ-loop) →
-    let p = c .before .before .before .before .before .before .before .before .before .before .before .before .before .before .before .before .before .before in
+    let p = returned c .before .before .before .before .before .before .before .before .before .before .before .before .before in
     0 < p .loop .left
-turning c = c .before .before .before .before .before .before .before .before .before .before .before .before .before .before .before .before .before .loop-test .taken
+turning c = returned c .before .before .before .before .before .before .before .before .before .before .before .before .loop-test .taken
 
 sub-left : tie.Need-sub-left Inv-loop μ-loop
 sub-left c = omega (arith, turning c)
@@ -145,21 +141,20 @@ loop-less c = omega (arith, turning c)
 
 loop-again : tie.Need-loop-again Inv-loop μ-loop
 loop-again c =
-    let s = c .before .before .before .before .before .before in
+    let s = returned c .before in
     let d = s .before .before .before .before .before .before .before .before in
     let f = d .before in
     let i = f .before .before in
     let p = i .before in
     let a = p .before .before .before .before .args in
     let b = s .step .ensures in
-    let g = c .before .before .before .before .before .out .given .1 in (
+    let g = returned c .out .given .1 in (
       ends s,
       c .before .pass .ensures .inside,
       g ∙ p .loop .inv .2,
       omega (arith, b .frames),
       omega (arith, b .small),
-      λ fs end e k.
-          underway-next (touchRules (a .most)) (a .untimed) (a .wet) _ fs end _ _ _ _ _ _ _ _ _ _ (p .loop .inv .5 fs end e k) (i .loop-test .taken) _ (f .find-head .ensures) _ (d .timed .ensures) _ b _ (p .loop .inv .2) (c .before .pass .ensures) g,
+      frames-next (a .untimed) (a .wet) (a .most) _ _ _ _ _ _ _ _ _ (i .loop-test .taken) _ (f .find-head .ensures) _ (d .timed .ensures) _ b _ g (c .before .pass .ensures) ∙ p .loop .inv .5,
     )
 
 same-length : tie.Need-same-length Inv-loop μ-loop
@@ -167,7 +162,10 @@ same-length c = search needs
 
 returns : tie.Need-returns Inv-loop μ-loop
 returns c =
-    record { small = omega arith; ran = λ fs rest e k. underway-last _ _ _ _ fs rest _ _ _ _ _ _ _ _ (c .before .loop .inv .5 fs rest e k) (c .loop-test .left) }
+    let p = c .before in
+    let a = p .before .before .before .before .args in
+    let e = sym (frames-end (a .untimed) (a .wet) (a .most) (p .loop .left) _ _ (c .loop-test .left)) ∙ p .loop .inv .5 in
+    record { small = omega arith; run = ap (λ (u : Underway). u .run) e; arrays = ap (λ (u : Underway). u .arrays) e; output = ap (λ (u : Underway). u .output) e }
 
 pub run-frames-spec : {M : Type 1} → statement M
 run-frames-spec =

@@ -3,8 +3,7 @@
 use borrow.Author.Needs.{needs}
 use mathlib.Core.Path.{_∙_}
 use Rattle.contacts.specs.Ruling.{source, contactsBy}
-use Rattle.contacts.proofs.Reading.{read-ids}
-use Rattle.contacts.proofs.Judgement.{breaks, decided}
+use Rattle.contacts.proofs.Judgement.{settled-read}
 use Rattle.contacts.proofs.judging.judge.Statement.{statement}
 use Rattle.contacts.proofs.judging.judge.Tie as tie
 
@@ -16,18 +15,8 @@ settle-requires c κs = search needs
 
 returns : tie.Need-returns
 returns c =
-    let d = c .before .before in
-    let a = d .before .before .args in
-    let i = read-ids (a .recorded) (a .n) (a .rest .now) (λ i. d .before .shared-slice-known .given i .fits) in
-    λ q.
-    let w = decided (a .most) (a .states .now) (a .xs .now) (a .ys .now) (contactsBy (source (a .recorded)) (a .n) (a .rest .now)) (a .active) _ (d .survey .ensures) (c .before .if1 .taken) i q in
-    c .settle .ensures (w .fits) ∙ w .same
-
-returns-2 : tie.Need-returns-2
-returns-2 c =
-    let d = c .before in
-    let a = d .before .before .args in
-    λ q. breaks (a .most) (a .states .now) (a .xs .now) (a .ys .now) (contactsBy (source (a .recorded)) (a .n) (a .rest .now)) _ (d .survey .ensures) (c .if1 .left)
+    let a = c .before .before .before .args in
+    c .settle .ensures ∙ settled-read (a .most) (a .states .now) (a .xs .now) (a .ys .now) (a .active) (contactsBy (source (a .recorded)) (a .n) (a .rest .now)) _ (c .before .survey .ensures)
 
 pub judge-spec : {M : Type 1} → statement M
-judge-spec = tie.close (tie.spec survey-requires settle-requires returns returns-2)
+judge-spec = tie.close (tie.spec survey-requires settle-requires returns)

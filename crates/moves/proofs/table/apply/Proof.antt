@@ -12,8 +12,9 @@ use Rattle.states.specs.Table.{next}
 use Rattle.machine.specs.Conforms.{moved}
 use Rattle.contacts.specs.Touch.{touchView}
 use Rattle.contacts.specs.Ruling.{source, contactsBy, tableFrom}
-use Rattle.moves.specs.Moves.{afterRead}
-use Rattle.moves.proofs.Moving.{read-end, read-bad, read-on, ends-got, ends-bad}
+use Rattle.framing.specs.After.{afterRead}
+use Rattle.framing.proofs.After.{read-end, read-bad, read-on}
+use Rattle.moves.proofs.Moving.{ends-got, ends-bad}
 use Rattle.moves.proofs.table.apply.Statement.{statement}
 use Rattle.moves.proofs.table.apply.Tie as tie
 

@@ -13,8 +13,9 @@ use Rattle.touch.specs.Touch.{contact}
 use Rattle.machine.specs.Held.{withListing}
 use Rattle.contacts.specs.Touch.{touchView}
 use Rattle.contacts.specs.Ruling.{contactsOf}
-use Rattle.moves.specs.Moves.{afterRead}
-use Rattle.moves.proofs.Moving.{read-end, read-bad, read-on, ends-got, ends-bad}
+use Rattle.framing.specs.After.{afterRead}
+use Rattle.framing.proofs.After.{read-end, read-bad, read-on}
+use Rattle.moves.proofs.Moving.{ends-got, ends-bad}
 use Rattle.openings.proofs.listing.list_contacts.Statement.{statement}
 use Rattle.openings.proofs.listing.list_contacts.Tie as tie
 

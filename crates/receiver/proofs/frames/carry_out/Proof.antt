@@ -39,7 +39,8 @@ returns c =
     let t = w .before in
     let m = t .before .before .before .before in
     let a = m .before .before .before .before .before .before .before in
-    carries _ _ _ (a .before .before .is-untimed .ensures) _ (a .active-in .ensures) _ _ _ _ _ (m .run-frames .ensures) _ _ _ _ (b .begun-after .ensures) (c .ignoring-in .ensures) (t .time-for .ensures) (w .answer-to .ensures)
+    let u = a .before .before in
+    carries _ _ _ (u .is-untimed .ensures) _ (a .active-in .ensures) (λ i. u .before .before .before .shared-slice-known .given i .fits) _ _ _ _ _ (m .run-frames .ensures) _ _ _ _ (b .begun-after .ensures) (c .ignoring-in .ensures) (t .time-for .ensures) (w .answer-to .ensures)
 
 pub carry-out-spec : {M : Type 1} → statement M
 carry-out-spec =

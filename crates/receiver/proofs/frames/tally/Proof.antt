@@ -22,7 +22,7 @@ returns c =
     let m = c .before .before in
     let a = m .before .before .before .before .before .before .before .before .before in
     let u = a .before .before in
-    tallies _ _ _ (u .is-untimed .ensures) _ (a .active-in .ensures) _ _ _ _ _ (rw (u .before .before .before .before .pre) at (m .run-frames .ensures))
+    tallies _ _ _ (u .is-untimed .ensures) _ (a .active-in .ensures) (λ i. u .before .before .before .shared-slice-known .given i .fits) _ _ _ _ _ (rw (u .before .before .before .before .pre) at (m .run-frames .ensures))
 
 pub tally-spec : {M : Type 1} → statement M
 tally-spec =

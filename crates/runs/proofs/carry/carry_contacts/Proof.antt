@@ -16,8 +16,9 @@ use Rattle.states.specs.Table.{next}
 use Rattle.machine.specs.Conforms.{moved}
 use Rattle.contacts.specs.Touch.{touchView}
 use Rattle.contacts.specs.Ruling.{contactsOf, tableFrom}
-use Rattle.moves.specs.Moves.{afterRead}
-use Rattle.moves.proofs.Moving.{read-end, read-bad, read-on, ends-got, ends-bad}
+use Rattle.framing.specs.After.{afterRead}
+use Rattle.framing.proofs.After.{read-end, read-bad, read-on}
+use Rattle.moves.proofs.Moving.{ends-got, ends-bad}
 use Rattle.runs.proofs.carry.carry_contacts.Statement.{statement}
 use Rattle.runs.proofs.carry.carry_contacts.Tie as tie
 
@@ -73,7 +74,7 @@ returns c =
         table = sym (read-bad (moved touchView next) (contact taken) _ (p .loop .left) _ _ h b) ∙ p .loop .inv .2;
         passed = ends-bad (contact taken) (a .n) (a .rest .now) _ (sym (ap skipped (series-bad (λ b. contact taken .read) false (p .loop .left) _ _ h b)) ∙ p .loop .inv .1);
       };
-      output = laying-bad _ _ _ _ _ _ _ (p .loop .inv .0) _ h b;
+      output = laying-bad _ _ _ _ _ _ _ (p .loop .inv .0) _ h b .output;
     }
 
 sub-write-contact : tie.Need-sub-write-contact Inv-loop μ-loop
@@ -132,7 +133,7 @@ returns-2 c =
         table = sym (read-end (moved touchView next) (contact taken) _ (p .loop .left) _ h) ∙ p .loop .inv .2;
         passed = ends-got (contact taken) (a .n) (a .rest .now) (p .loop .at) (sym (ap skipped (series-end (λ b. contact taken .read) false (p .loop .left) _ h)) ∙ p .loop .inv .1) (p .loop .inv .0 .inside);
       };
-      output = laying-done _ _ _ _ _ _ _ (p .loop .inv .0) h;
+      output = laying-done _ _ _ _ _ _ _ (p .loop .inv .0) h .output;
     }
 
 pub carry-contacts-spec : {M : Type 1} → statement M

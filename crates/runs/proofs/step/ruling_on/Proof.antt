@@ -1,10 +1,9 @@
 -- `runs::step::ruling_on` meets its contract.
 -- Assumes nothing.
 use borrow.Author.Needs.{needs}
-use Rattle.contacts.specs.Touch.{touchRules}
-use Rattle.contacts.specs.Ruling.{contactsOf, arraysFrom}
-use Rattle.runs.specs.Runs.{machineIn}
-use Rattle.runs.proofs.Stepping.{ruled-on}
+use mathlib.Core.Path.{ap, _∙_}
+use mathlib.Core.Bool.{Bool}
+use Rattle.contacts.specs.Ruling.{contactsOf, tableFrom, judgedFrom, rulingBy}
 use Rattle.runs.proofs.step.ruling_on.Statement.{statement}
 use Rattle.runs.proofs.step.ruling_on.Tie as tie
 
@@ -17,8 +16,8 @@ verdict-of-requires c κs = search needs
 returns : tie.Need-returns
 returns c =
     let a = c .before .before .before .args in
-    ruled-on (touchRules (a .most)) (machineIn (a .run) (arraysFrom (a .states .now) (a .xs .now) (a .ys .now) (a .held .now))) (a .run .active) (contactsOf (a .n) (a .rest .now)) _ _
-    (c .before .is-judged .ensures) (c .verdict-of .ensures)
+    c .verdict-of .ensures
+    ∙ ap (λ (b : Bool). rulingBy b (judgedFrom (a .most) (a .run .active) (tableFrom (a .states .now) (a .xs .now) (a .ys .now)) (contactsOf (a .n) (a .rest .now)))) (c .before .is-judged .ensures)
 
 pub ruling-on-spec : {M : Type 1} → statement M
 ruling-on-spec = tie.close (tie.spec is-judged-requires verdict-of-requires returns)

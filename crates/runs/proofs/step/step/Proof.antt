@@ -37,12 +37,12 @@ returns : tie.Need-returns
 returns c =
     let i = c .before .before in
     let k = i .before .before .before .before .before .before .before in
-    steps-injected _ _ _ _ _ _ _ _ _ _ _ (λ a. sym (k .ruling .given .1) ∙ k .before .before .ruling-on .ensures a) (i .inject .ensures)
+    steps-injected _ _ _ _ _ _ _ _ _ _ _ (sym (k .ruling .given .1) ∙ k .before .before .ruling-on .ensures) (i .inject .ensures)
 
 returns-2 : tie.Need-returns-2
 returns-2 c =
     let k = c .before .before in
-    steps-ignored _ _ _ _ _ _ _ _ _ (λ a. sym (k .enum-told .given .1) ∙ k .before .before .ruling-on .ensures a) (c .ignore .ensures)
+    steps-ignored _ _ _ _ _ _ _ _ _ (sym (k .enum-told .given .1) ∙ k .before .before .ruling-on .ensures) (c .ignore .ensures)
 
 same-length-2 : tie.Need-same-length-2
 same-length-2 c = search needs
@@ -51,7 +51,7 @@ returns-3 : tie.Need-returns-3
 returns-3 c =
     let i = c .before .before in
     let k = i .before .before .before .before .before .before in
-    steps-cancelled _ _ _ _ _ _ _ _ _ _ (λ a. sym (k .enum-told2 .given .1) ∙ k .before .before .ruling-on .ensures a) (i .cancel .ensures)
+    steps-cancelled _ _ _ _ _ _ _ _ _ _ (sym (k .enum-told2 .given .1) ∙ k .before .before .ruling-on .ensures) (i .cancel .ensures)
 
 pub step-spec : {M : Type 1} → statement M
 step-spec =

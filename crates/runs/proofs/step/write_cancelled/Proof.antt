@@ -1,7 +1,7 @@
 -- `runs::step::write_cancelled` meets its contract.
 -- Assumes nothing.
 use borrow.Author.Needs.{needs}
-use Rattle.runs.proofs.Stepping.{lays-on, lays-off}
+use Rattle.runs.proofs.Laying.{lays-on, lays-off}
 use Rattle.runs.proofs.step.write_cancelled.Statement.{statement}
 use Rattle.runs.proofs.step.write_cancelled.Tie as tie
 

@@ -14,7 +14,7 @@ use Rattle.messages.specs.Bodies.{flagsListed, versionListed, clientReadyDraft}
 use Rattle.messages.specs.Bodies as body
 use Rattle.messages.specs.declared.Ready.{Ready}
 use Rattle.messages.proofs.Laws.{one-of-first, ready-law}
-use Rattle.messages.proofs.RoundTrip.{FitReady, round-trips}
+use Rattle.message_writers.proofs.RoundTrip.{FitReady, round-trips}
 use Rattle.channel.specs.Marks.{off}
 use Rattle.panels.specs.Panel.{mayDeclare, readySending}
 use Rattle.panels.specs.declared.Panel.{Panel}

@@ -12,7 +12,7 @@ use Rattle.formats.specs.Format.{byte}
 use Rattle.states.specs.Table.{hovering}
 use Rattle.messages.specs.Header.{oneOf, clientReady, touch, dismiss}
 use Rattle.messages.proofs.Laws.{one-of-first, one-of-later, dismiss-law}
-use Rattle.messages.proofs.RoundTrip.{round-trips}
+use Rattle.message_writers.proofs.RoundTrip.{round-trips}
 use Rattle.machine.specs.Table.{stateAt}
 use Rattle.machine.specs.Machine.{dismissTable}
 use Rattle.machine.proofs.Held.{without-nobody}

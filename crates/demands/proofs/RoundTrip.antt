@@ -26,7 +26,7 @@ use Rattle.messages.specs.declared.Ready.{Ready}
 use Rattle.messages.specs.declared.ReadVersion.the-variants as version-read
 use Rattle.messages.specs.declared.ReadReady.the-variants as ready-read
 use Rattle.messages.specs.declared.ReadDismiss.the-variants as dismiss-read
-use Rattle.messages.proofs.RoundTrip.{RoundTrip, round-trips}
+use Rattle.message_writers.proofs.RoundTrip.{RoundTrip, round-trips}
 use Rattle.messages.proofs.Unique.{version-meant, ready-meant, dismiss-meant}
 use Rattle.framing.specs.Frame.{Frame, framesBytes}
 use Rattle.frame_records.proofs.Laws.{length-frames}

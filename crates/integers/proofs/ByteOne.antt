@@ -1,13 +1,11 @@
--- Byte one: how the count's, the sign's and the magnitude's bits share it, by k count bits and g sign bits, and that what is written there
--- is a byte.
+-- Byte one: how the count's, the sign's and the magnitude's bits share it, by k count bits and g sign bits.
 -- Assumes nothing.
 use Prim.Native.Nat.{ℕ, _+_, _-_, _*_, _/_, _^_, _<_, _≤_}
 use mathlib.Core.Path.{_≡_}
-use native.Mathlib.Nat.{lt-of-lt-of-le, mul-le-mul-right, mul-le-mul-left, pow-le-pow-right, div-lt-iff-lt-mul, div-div-eq-div-mul, mul-assoc, le-trans, le-of-eq}
+use native.Mathlib.Nat.{lt-of-lt-of-le, mul-le-mul-right, mul-le-mul-left, pow-le-pow-right, div-lt-iff-lt-mul, div-div-eq-div-mul, le-trans, le-of-eq}
 use native.Mathlib.Omega.{arith}
 use lib.Dec.{lit<}
 use lib.Pow.{pow-add, pow-mono, shr-lt, pow-pos}
-use lib.Arith.{digits-lt}
 use Rattle.integers.specs.Integer.{furthest, fewest, countOf, tops, signs, limit}
 use Rattle.integers.proofs.Fewest.{fewest-fits, fewest-least}
 
@@ -70,31 +68,4 @@ held k g m hk h hm =
       fits = fewest-fits furthest (tops k g) m lg;
       most = more;
       counted = le-trans (mul-le-mul-right (signs g * tops k g) more) (le-of-eq (rw (← pow-add, ← pow-add, w)));
-    }
-
--- byte one of c further bytes, sign s and top a, and each step to it, is a byte
-pub record Top (t q c s a : ℕ) : Type 0 where
-  pub count : c < 256
-  pub shifted : c * q < 256
-  pub signed : c * q + s < 256
-  pub raised : (c * q + s) * t < 256
-  pub top : a < 256
-  pub whole : (c * q + s) * t + a < 256
-
-pub top-byte : (t q c s a : ℕ) → s < q → a < t → (c + 1) * (q * t) ≤ 256 → Top t q c s a
-top-byte t q c s a hs ha h =
-    let less : c < c + 1 = omega arith in
-    let w : (c * q + s) * t + a < (c + 1) * q * t = digits-lt (digits-lt less hs) ha in
-    let all : (c * q + s) * t + a < 256 = omega (arith, mul-assoc (c + 1) q t) in
-    let hq : 1 ≤ q = omega arith in
-    let ht : 1 ≤ t = omega arith in
-    let x : (c * q + s) * 1 ≤ (c * q + s) * t = mul-le-mul-left (c * q + s) ht in
-    let y : c * 1 ≤ c * q = mul-le-mul-left c hq in
-    record {
-      count = omega arith;
-      shifted = omega arith;
-      signed = omega arith;
-      raised = omega arith;
-      top = omega arith;
-      whole = all;
     }

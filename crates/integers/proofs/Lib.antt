@@ -1,6 +1,5 @@
 pub mod Fewest
 pub mod ByteOne
-pub mod Fill
 pub mod Laws
 pub mod Signed
 pub mod Taken

@@ -2,12 +2,7 @@
 -- Assumes nothing.
 use Prim.Native.Nat.{ℕ}
 use mathlib.Core.Path.{_≡_, refl, sym, ap, _∙_}
-use mathlib.Core.List.{List}
-use lib.ListN.{length}
-use Rattle.slices.specs.Writing.{Writes}
-use Rattle.slices.specs.declared.Written.{Written}
-use Rattle.slices.proofs.Laws.{writes-unique}
-use Rattle.integers.specs.Integer.{Reading, value, refused, writing, draft}
+use Rattle.integers.specs.Integer.{Reading, value, refused}
 use Rattle.integers.specs.Answer.{signedValue, u2Of, s2Of, u4Of, s4Of, u8Of}
 use Rattle.integers.specs.declared.ReadU2.{ReadU2}
 use Rattle.integers.specs.declared.ReadU2.the-variants as U2
@@ -71,17 +66,7 @@ read-u8-unique = by-making u8Of (make (λ s m n. U8.Value m n) U8.Refused) back
     back (U8.Value m n) = refl
     back (U8.Refused e) = refl
 
--- ---- refusals: the five methods
+-- ---- numbers: the refusals of the five methods, and the fewest further bytes
 
-pub refusal-unique : (x r r′ : ℕ) → r ≡ x → r′ ≡ x → r ≡ r′
-refusal-unique x r r′ e e′ = e ∙ sym e′
-
--- ---- writers, all five
-
-pub write-unique : (k g s m : ℕ) (v w : Written) (before after after′ : List ℕ) → Writes (draft k g s m) v before after → Writes (draft k g s m) w before after′ → (v ≡ w) × (after ≡ after′)
-write-unique k g s m = writes-unique (draft k g s m)
-
--- ---- lengths, all five
-
-pub bytes-unique : (k g s m n n′ : ℕ) → n ≡ length (writing k g s m) → n′ ≡ length (writing k g s m) → n ≡ n′
-bytes-unique k g s m n n′ e e′ = e ∙ sym e′
+pub number-unique : (x r r′ : ℕ) → r ≡ x → r′ ≡ x → r ≡ r′
+number-unique x r r′ e e′ = e ∙ sym e′

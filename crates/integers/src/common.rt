@@ -1,9 +1,7 @@
-// What reading, writing and the lengths share.
+// What the readers share, and the fewest further bytes, which the writers need too.
 ghost use mathlib.Core.Path.{_≡_};
 ghost use Prim.Native.Nat.{_^_, _<_};
-ghost use lib.IntN.{natAbs};
 ghost use Rattle.integers.specs.Integer.{fewest, furthest};
-ghost use Rattle.integers.specs.Answer.{minus};
 
 // The greatest count of further bytes of any integer.
 const FURTHEST: usize = 7;
@@ -23,7 +21,7 @@ pub(crate) fn power(n: u8) -> u8
 }
 
 // How many further bytes n takes where byte one has tops values for its most significant bits.
-pub(crate) fn fewest_of(tops: u64, n: u64) -> usize
+pub fn fewest_of(tops: u64, n: u64) -> usize
     ensures { λ r. ⌜ r ≡ fewest furthest tops n ⌝ }
 {
     let mut v = n;
@@ -36,26 +34,4 @@ pub(crate) fn fewest_of(tops: u64, n: u64) -> usize
         c += 1;
     }
     c
-}
-
-// The sign and the magnitude of a signed value.
-pub(crate) struct Parts {
-    pub(crate) minus: u8,
-    pub(crate) size: u64,
-}
-
-// The least i32 has no opposite in i32: it is negated as an i64.
-pub(crate) fn split(z: i32) -> Parts
-    ensures { λ r. ⌜ (r .minus ≡ minus z) × (r .size ≡ natAbs z) ⌝ }
-{
-    if z < 0 {
-        return Parts {
-            minus: 1,
-            size: (0 - z as i64) as u64,
-        };
-    }
-    Parts {
-        minus: 0,
-        size: z as u64,
-    }
 }

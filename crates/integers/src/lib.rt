@@ -1,17 +1,11 @@
-// The five integers of 000, 2.2.2: read in their only form or in any, written in their only form, and how long that is.
+// The five integers of 000, 2.2.2, read in their only form or in any.
 mod common;
 mod found;
-mod lengths;
 mod lenient;
 mod read;
 mod strict;
-mod write;
 
-pub use lengths::s2_bytes;
-pub use lengths::s4_bytes;
-pub use lengths::u2_bytes;
-pub use lengths::u4_bytes;
-pub use lengths::u8_bytes;
+pub use common::fewest_of;
 pub use lenient::read_any_s2;
 pub use lenient::read_any_s4;
 pub use lenient::read_any_u2;
@@ -27,11 +21,6 @@ pub use strict::read_s4;
 pub use strict::read_u2;
 pub use strict::read_u4;
 pub use strict::read_u8;
-pub use write::write_s2;
-pub use write::write_s4;
-pub use write::write_u2;
-pub use write::write_u4;
-pub use write::write_u8;
 ghost use mathlib.Core.Path.{_≡_};
 ghost use Rattle.integers.specs.Integer.{refusalOf};
 ghost use Rattle.integers.specs.Answer.{u2Of, s2Of, u4Of, s4Of, u8Of};

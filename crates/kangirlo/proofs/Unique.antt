@@ -8,7 +8,7 @@ use Rattle.paper.specs.declared.Milliseconds.{Milliseconds}
 use Rattle.slices.specs.Writing.{Draft, Writes}
 use Rattle.slices.specs.declared.Written.{Written}
 use Rattle.messages.specs.Bodies.{serverReadyDraft, clientReadyDraft, suspendDraft, resumeDraft, dismissDraft}
-use Rattle.messages.proofs.Unique.{writers-unique}
+use Rattle.message_writers.proofs.Unique.{writers-unique}
 use Rattle.reading.specs.Plain.{ReadsPlainly, ReadsStrictly}
 use Rattle.reading.specs.declared.PlainAnswer.{PlainAnswer}
 use Rattle.reading.proofs.Unique.{read-unique}

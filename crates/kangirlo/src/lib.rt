@@ -110,7 +110,7 @@ pub extern "C" fn kangirlo_plain_strictly(message: &[u8], output: &mut [u8]) -> 
 pub extern "C" fn kangirlo_write_server_ready(output: &mut [u8], version: u32) -> Written
     ensures { λ r. ⌜ Writes (serverReadyDraft version) r (now (output .entry)) (now (output .exit)) ⌝ }
 {
-    messages::write_server_ready(output, version)
+    message_writers::write_server_ready(output, version)
 }
 
 #[no_mangle]
@@ -127,7 +127,7 @@ pub extern "C" fn kangirlo_write_client_ready(
         version: version,
         most: most,
     };
-    messages::write_client_ready(output, ready)
+    message_writers::write_client_ready(output, ready)
 }
 
 #[no_mangle]
@@ -145,21 +145,21 @@ pub extern "C" fn kangirlo_write_touch(
 pub extern "C" fn kangirlo_write_suspend(output: &mut [u8]) -> Written
     ensures { λ r. ⌜ Writes suspendDraft r (now (output .entry)) (now (output .exit)) ⌝ }
 {
-    messages::write_suspend(output)
+    message_writers::write_suspend(output)
 }
 
 #[no_mangle]
 pub extern "C" fn kangirlo_write_resume(output: &mut [u8]) -> Written
     ensures { λ r. ⌜ Writes resumeDraft r (now (output .entry)) (now (output .exit)) ⌝ }
 {
-    messages::write_resume(output)
+    message_writers::write_resume(output)
 }
 
 #[no_mangle]
 pub extern "C" fn kangirlo_write_dismiss(output: &mut [u8], id: u8) -> Written
     ensures { λ r. ⌜ Writes (dismissDraft id) r (now (output .entry)) (now (output .exit)) ⌝ }
 {
-    messages::write_dismiss(output, id)
+    message_writers::write_dismiss(output, id)
 }
 
 // The record at the front of a slice of records, where it is whole and well formed.

@@ -1,19 +1,16 @@
--- Two outcomes that a public call's contract allows are equal: the contracts decide the answer and the output.
+-- Two outcomes that a public call's contract allows are equal: the contracts decide the answer.
 -- Assumes nothing.
 use Prim.Native.Nat.{ℕ}
 use mathlib.Core.Path.{_≡_, sym, ap, _∙_}
+use mathlib.Core.Bool.{Bool}
 use mathlib.Core.List.{List, [], _∷_}
 use native.Mathlib.Omega.{arith}
 use Rattle.paper.specs.Refusals.{trailing}
-use Rattle.slices.specs.Writing.{Draft, bytes, Writes}
-use Rattle.slices.specs.declared.Written.{Written}
-use Rattle.slices.proofs.Laws.{writes-unique}
 use Rattle.formats.specs.Format.{got, bad, whole, byte}
 use Rattle.formats.specs.Answer.{refusalOf}
-use Rattle.messages.specs.Header.{headed, readMessage, serverReady, clientReady, suspend, resume, dismiss, header}
-use Rattle.messages.specs.Bodies.{version, ready, nothing, serverReadyDraft, clientReadyDraft, suspendDraft, resumeDraft, dismissDraft}
+use Rattle.messages.specs.Header.{headed, readMessage, serverReady, clientReady, suspend, resume, dismiss}
+use Rattle.messages.specs.Bodies.{versionListed, version, ready, nothing}
 use Rattle.messages.specs.Answer.{headerGot, versionGot, readyGot, dismissGot}
-use Rattle.messages.specs.declared.Ready.{Ready}
 use Rattle.messages.specs.declared.Header.{Header}
 use Rattle.messages.specs.declared.Header.the-variants as head
 use Rattle.messages.specs.declared.ReadVersion.{ReadVersion}
@@ -61,6 +58,7 @@ One {R} P = (l : List ℕ) (r s : R) → P l r → P l s → r ≡ s
 
 pub record Readers : Type 0 where
   pub read-header : (first second : ℕ) → One (λ l r. headerGot r l ≡ headed (first ∷ second ∷ []) l)
+  pub is-version : (v : ℕ) (r s : Bool) → r ≡ versionListed v → s ≡ versionListed v → r ≡ s
   pub read-server-ready-body : One (λ l r. versionGot r ≡ whole version trailing l)
   pub read-ready-body : One (λ l r. readyGot r ≡ whole ready trailing l)
   pub read-empty-body : One (λ l r. r ≡ refusalOf (whole nothing trailing l))
@@ -75,6 +73,7 @@ pub readers-unique : Readers
 readers-unique =
     record {
       read-header = λ first second l r s h k. header-meant l r s (h ∙ sym k);
+      is-version = λ v r s h k. h ∙ sym k;
       read-server-ready-body = λ l r s h k. version-meant r s (h ∙ sym k);
       read-ready-body = λ l r s h k. ready-meant r s (h ∙ sym k);
       read-empty-body = λ l r s h k. h ∙ sym k;
@@ -84,28 +83,4 @@ readers-unique =
       read-suspend = λ l r s h k. h ∙ sym k;
       read-resume = λ l r s h k. h ∙ sym k;
       read-dismiss = λ l r s h k. dismiss-meant r s (h ∙ sym k);
-    }
-
--- ---- the writers
-
-abbrev Same : Draft → Type 0
-Same d = (v w : Written) (before after after′ : List ℕ) → Writes d v before after → Writes d w before after′ → (v ≡ w) × (after ≡ after′)
-
-pub record Writers : Type 0 where
-  pub write-header : (event total : ℕ) → Same (bytes (header event total))
-  pub write-server-ready : (v : ℕ) → Same (serverReadyDraft v)
-  pub write-client-ready : (r : Ready) → Same (clientReadyDraft r)
-  pub write-suspend : Same suspendDraft
-  pub write-resume : Same resumeDraft
-  pub write-dismiss : (id : ℕ) → Same (dismissDraft id)
-
-pub writers-unique : Writers
-writers-unique =
-    record {
-      write-header = λ event total. writes-unique (bytes (header event total));
-      write-server-ready = λ v. writes-unique (serverReadyDraft v);
-      write-client-ready = λ r. writes-unique (clientReadyDraft r);
-      write-suspend = writes-unique suspendDraft;
-      write-resume = writes-unique resumeDraft;
-      write-dismiss = λ id. writes-unique (dismissDraft id);
     }

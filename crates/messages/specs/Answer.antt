@@ -1,9 +1,7 @@
--- What the code's answers mean, and the contract of the writers whose callers have made room.
+-- What the code's answers mean.
 use Prim.Native.Nat.{ℕ}
-use mathlib.Core.Path.{_≡_}
 use mathlib.Core.List.{List, []}
-use lib.ListN.{length, drop}
-use Rattle.slices.specs.Writing.{laid}
+use lib.ListN.{drop}
 use Rattle.formats.specs.Format.{Got, got, bad}
 use Rattle.messages.specs.Header.{headerBytes}
 use Rattle.messages.specs.declared.Header.{Header}
@@ -69,10 +67,3 @@ twoFault (two.Refused e) = e
 abbrev pub fourFault : Four → ℕ
 fourFault (four.Value v) = 0
 fourFault (four.Refused e) = e
-
--- ---- writing
-
--- the bytes s, n of them, are laid at the front of an output that has room for them
-pub record Put (s : List ℕ) (n : ℕ) (before after : List ℕ) : Type 0 where
-  pub count : n ≡ length s
-  pub output : after ≡ laid before s

@@ -16,7 +16,8 @@ use crate::little::read_four;
 use crate::little::read_two;
 use crate::little::two_fault;
 
-pub(crate) fn is_version(v: u32) -> bool
+// Whether a version is listed.
+pub fn is_version(v: u32) -> bool
     ensures { λ r. ⌜ r ≡ versionListed v ⌝ }
 {
     if v == crate::VERSION_100 {

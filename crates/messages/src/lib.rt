@@ -1,10 +1,10 @@
-// The messages of [MS-RDPEI]: the header of all, and the bodies of all but touch, read and written.
+// The messages of [MS-RDPEI] read: the header of all, and the bodies of all but touch; with the numbers that their writers need too.
 mod body;
 mod head;
 mod little;
 mod whole;
-mod write;
 
+pub use body::is_version;
 pub use body::read_dismiss_body;
 pub use body::read_empty_body;
 pub use body::read_ready_body;
@@ -15,12 +15,6 @@ pub use whole::read_dismiss;
 pub use whole::read_resume;
 pub use whole::read_server_ready;
 pub use whole::read_suspend;
-pub use write::write_client_ready;
-pub use write::write_dismiss;
-pub use write::write_header;
-pub use write::write_resume;
-pub use write::write_server_ready;
-pub use write::write_suspend;
 
 // The events (000, 2.2.2.6).
 pub const SERVER_READY: u16 = 1;

@@ -53,7 +53,7 @@ pub fn write_ready_parts(
         version: version,
         most: most,
     };
-    let written = messages::write_client_ready(out, settings);
+    let written = message_writers::write_client_ready(out, settings);
     if written.refusal != 0 {
         return refuse(marks, written.refusal);
     }
@@ -86,7 +86,7 @@ pub fn write_dismiss_parts(
     if states[id as usize] != states::HOVERING {
         return refuse(marks, paper::ILLEGAL);
     }
-    let written = messages::write_dismiss(out, id);
+    let written = message_writers::write_dismiss(out, id);
     if written.refusal != 0 {
         return refuse(marks, written.refusal);
     }

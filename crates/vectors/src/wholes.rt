@@ -110,11 +110,11 @@ pub(crate) fn show(written: Written, out: &[u8]) {
 fn write_kind(out: &mut [u8], kind: u8, minus: u8, high: u32, low: u32) -> Written {
     let half = (low % 65536) as u16;
     match kind {
-        0 => integers::write_u2(out, half),
-        1 => integers::write_s2(out, parse::signed16(minus, half)),
-        2 => integers::write_u4(out, low),
-        3 => integers::write_s4(out, parse::signed32(minus, low)),
-        _ => integers::write_u8(out, parse::joined(high, low)),
+        0 => integer_writers::write_u2(out, half),
+        1 => integer_writers::write_s2(out, parse::signed16(minus, half)),
+        2 => integer_writers::write_u4(out, low),
+        3 => integer_writers::write_s4(out, parse::signed32(minus, low)),
+        _ => integer_writers::write_u8(out, parse::joined(high, low)),
     }
 }
 

@@ -12,8 +12,8 @@ use Rattle.slices.proofs.Laws.{writes-done}
 use Rattle.slices.proofs.Tails.{laidAt, laid-none, wrote}
 use Rattle.integers.specs.Integer.{writing, draft, limit}
 use Rattle.integers.proofs.Laws.{draft-bytes}
-use Rattle.messages.specs.Answer.{Put}
-use Rattle.messages.proofs.Writing.{put-next, Room, room}
+use Rattle.message_writers.specs.Put.{Put}
+use Rattle.message_writers.proofs.Writing.{put-next, Room, room}
 
 -- an integer that is in range
 pub put-integer : (k g s m : ℕ) (w : Written) (before after : List ℕ) → m < limit k g → length (writing k g s m) ≤ length before → Writes (draft k g s m) w before after

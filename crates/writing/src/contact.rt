@@ -6,7 +6,7 @@ ghost use lib.ListN.{length};
 ghost use Rattle.formats.specs.Format.{byte};
 ghost use Rattle.fields.specs.Integers.{taken};
 ghost use Rattle.well_formed.specs.WellFormed.{has};
-ghost use Rattle.messages.specs.Answer.{Put};
+ghost use Rattle.message_writers.specs.Put.{Put};
 ghost use Rattle.touch.specs.Touch.{point, contact, optional, optionalOf};
 use crate::numbers::put_u2;
 use crate::numbers::put_u4;

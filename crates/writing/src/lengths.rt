@@ -25,7 +25,7 @@ use well_formed::has_field;
 fn point_bytes(place: Point) -> usize
     ensures { λ r. ⌜ r ≡ length (point taken .write place) ⌝ }
 {
-    integers::s4_bytes(place.x) + integers::s4_bytes(place.y)
+    integer_writers::s4_bytes(place.x) + integer_writers::s4_bytes(place.y)
 }
 
 // The sides, where they are there.
@@ -33,8 +33,10 @@ fn sides_bytes(there: bool, four: Sides) -> usize
     ensures { λ r. ⌜ r ≡ length (cond there (sides taken .write four) []) ⌝ }
 {
     if there {
-        let high = integers::s2_bytes(four.left) + integers::s2_bytes(four.top);
-        return high + integers::s2_bytes(four.right) + integers::s2_bytes(four.bottom);
+        let high = integer_writers::s2_bytes(four.left) + integer_writers::s2_bytes(four.top);
+        return high
+            + integer_writers::s2_bytes(four.right)
+            + integer_writers::s2_bytes(four.bottom);
     }
     0
 }
@@ -44,7 +46,7 @@ fn number_bytes(there: bool, value: u32) -> usize
     ensures { λ r. ⌜ r ≡ length (cond there (taken .u4 .write value) []) ⌝ }
 {
     if there {
-        return integers::u4_bytes(value);
+        return integer_writers::u4_bytes(value);
     }
     0
 }
@@ -64,8 +66,8 @@ fn optional_bytes(touch: Contact) -> usize
 fn contact_bytes(touch: Contact) -> usize
     ensures { λ r. ⌜ r ≡ length (contact taken .write touch) ⌝ }
 {
-    let lead = 1 + integers::u2_bytes(touch.present as u16);
-    let place = point_bytes(touch.place) + integers::u4_bytes(touch.flags as u32);
+    let lead = 1 + integer_writers::u2_bytes(touch.present as u16);
+    let place = point_bytes(touch.place) + integer_writers::u4_bytes(touch.flags as u32);
     lead + place + optional_bytes(touch)
 }
 
@@ -73,7 +75,7 @@ fn contact_bytes(touch: Contact) -> usize
 fn frame_head_bytes(head: Head) -> usize
     ensures { λ r. ⌜ r ≡ length (frameHead taken false .write head) ⌝ }
 {
-    integers::u2_bytes(head.count) + integers::u8_bytes(head.offset.0)
+    integer_writers::u2_bytes(head.count) + integer_writers::u8_bytes(head.offset.0)
 }
 
 // The record at the front of what is lent.
@@ -107,7 +109,7 @@ fn records_bytes(records: &[u8], count: usize) -> usize
 fn touch_head_bytes(time: Milliseconds, frames: u8) -> usize
     ensures { λ r. ⌜ r ≡ length (touchHead taken .write (record { time = time; frames = frames })) ⌝ }
 {
-    integers::u4_bytes(time.0) + integers::u2_bytes(frames as u16)
+    integer_writers::u4_bytes(time.0) + integer_writers::u2_bytes(frames as u16)
 }
 
 // The whole message.

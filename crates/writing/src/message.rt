@@ -5,7 +5,7 @@ ghost use Prim.Native.Nat.{_+_, _<_, _≤_};
 ghost use lib.ListN.{length};
 ghost use Rattle.integers.specs.Integer.{limit};
 ghost use Rattle.fields.specs.Integers.{taken};
-ghost use Rattle.messages.specs.Answer.{Put};
+ghost use Rattle.message_writers.specs.Put.{Put};
 ghost use Rattle.messages.specs.Header.{header, headerBytes};
 ghost use Rattle.touch.specs.Touch.{touchHead};
 ghost use Rattle.slices.specs.Writing.{refuse, answered, Writes};
@@ -55,7 +55,7 @@ fn write_message(
     requires { ⌜ (time .0 < limit 2 0) × Spelt count (now records) × (total ≡ headerBytes + length (bodyOf time frames count (now records))) × (total ≤ length (now out)) ⌝ }
     ensures { λ r. ⌜ Put (header 3 total ++ bodyOf time frames count (now (records .entry))) r (now (out .entry)) (now (out .exit)) ⌝ }
 {
-    messages::write_header(out, messages::TOUCH, total);
+    message_writers::write_header(out, messages::TOUCH, total);
     let body = &mut out[messages::HEADER_BYTES..];
     messages::HEADER_BYTES + write_body(body, time, frames, records, count)
 }

@@ -6,7 +6,7 @@ ghost use lib.ListN.{length};
 ghost use Rattle.formats.specs.Format.{byte, HoldsWhen};
 ghost use Rattle.house.specs.Fits.{noSides};
 ghost use Rattle.fields.specs.Integers.{taken};
-ghost use Rattle.messages.specs.Answer.{Put};
+ghost use Rattle.message_writers.specs.Put.{Put};
 ghost use Rattle.touch.specs.Touch.{point, sides};
 use crate::numbers::put_s2;
 use crate::numbers::put_s4;

@@ -4,7 +4,7 @@ ghost use Prim.Native.Nat.{_≤_};
 ghost use lib.ListN.{length};
 ghost use Rattle.fields.specs.Integers.{taken};
 ghost use Rattle.house.specs.Layout.{recordOf};
-ghost use Rattle.messages.specs.Answer.{Put};
+ghost use Rattle.message_writers.specs.Put.{Put};
 ghost use Rattle.touch.specs.Touch.{frameHead};
 ghost use Rattle.writing.specs.Spelling.{spelling, Spells, spelt, Spelt};
 use crate::contact::write_contact;

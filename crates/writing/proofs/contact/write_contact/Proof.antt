@@ -11,8 +11,8 @@ use Rattle.formats.specs.Format.{byte}
 use Rattle.fields.specs.Integers.{taken}
 use Rattle.house.specs.declared.Contact.{Contact}
 use Rattle.touch.specs.Touch.{point, optional, optionalOf, contact}
-use Rattle.messages.specs.Answer.{Put}
-use Rattle.messages.proofs.Writing.{Room}
+use Rattle.message_writers.specs.Put.{Put}
+use Rattle.message_writers.proofs.Writing.{Room}
 use Rattle.writing.proofs.Putting.{Parted, first-room, next-room, both-inside, put-both}
 use borrow.Author.Needs.{needs}
 use Rattle.writing.proofs.contact.write_contact.Statement.{statement}

@@ -8,8 +8,8 @@ use lib.ListN.{length}
 use Rattle.fields.specs.Integers.{taken}
 use Rattle.well_formed.specs.WellFormed.{has}
 use Rattle.touch.specs.Touch.{sides, optional, optionalOf}
-use Rattle.messages.specs.Answer.{Put}
-use Rattle.messages.proofs.Writing.{Room}
+use Rattle.message_writers.specs.Put.{Put}
+use Rattle.message_writers.proofs.Writing.{Room}
 use Rattle.writing.proofs.Putting.{Parted, first-room, next-room, both-inside, put-both}
 use borrow.Author.Needs.{needs}
 use Rattle.writing.proofs.contact.write_optional.Statement.{statement}

@@ -6,7 +6,7 @@ use denote.Ref.{now}
 use lib.ListN.{length}
 use Rattle.fields.specs.Integers.{taken}
 use Rattle.touch.specs.Touch.{touchHead}
-use Rattle.messages.proofs.Writing.{Room}
+use Rattle.message_writers.proofs.Writing.{Room}
 use Rattle.writing.specs.Spelling.{spelt, bodyOf}
 use Rattle.writing.proofs.Putting.{Parted, first-room, next-room, both-inside, put-both}
 use borrow.Author.Needs.{needs}

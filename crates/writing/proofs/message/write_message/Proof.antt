@@ -6,7 +6,7 @@ use native.Mathlib.Omega.{arith}
 use denote.Ref.{now}
 use Rattle.formats.specs.Format.{writeLittle}
 use Rattle.slices.proofs.Laws.{writes-done}
-use Rattle.messages.specs.Answer.{Put}
+use Rattle.message_writers.specs.Put.{Put}
 use Rattle.messages.specs.Header.{header, headerBytes, touch}
 use Rattle.messages.proofs.Laws.{header-long}
 use Rattle.writing.specs.Spelling.{bodyOf}

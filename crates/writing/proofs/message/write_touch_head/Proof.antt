@@ -7,7 +7,7 @@ use lib.ListN.{length}
 use Rattle.fields.specs.Integers.{taken}
 use Rattle.framing.specs.Format.{bodyHeadFormat}
 use Rattle.touch.specs.Touch.{touchHead}
-use Rattle.messages.proofs.Writing.{Room}
+use Rattle.message_writers.proofs.Writing.{Room}
 use Rattle.writing.proofs.Putting.{Parted, first-room, next-room, both-inside, put-both}
 use borrow.Author.Needs.{needs}
 use Rattle.writing.proofs.message.write_touch_head.Statement.{statement}

@@ -3,7 +3,7 @@
 use mathlib.Core.Path.{refl}
 use native.Mathlib.Omega.{arith}
 use borrow.Author.Needs.{needs}
-use Rattle.messages.proofs.Front.{front-one}
+use Rattle.message_writers.proofs.Front.{front-one}
 use Rattle.writing.proofs.parts.write_byte.Statement.{statement}
 use Rattle.writing.proofs.parts.write_byte.Tie as tie
 

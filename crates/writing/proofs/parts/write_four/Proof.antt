@@ -12,8 +12,8 @@ use borrow.Rule.Slice.PartMut.{midOf}
 use Rattle.fields.specs.Integers.{taken}
 use Rattle.house.specs.declared.Sides.{Sides}
 use Rattle.touch.specs.Touch.{sides}
-use Rattle.messages.specs.Answer.{Put}
-use Rattle.messages.proofs.Writing.{Room}
+use Rattle.message_writers.specs.Put.{Put}
+use Rattle.message_writers.proofs.Writing.{Room}
 use Rattle.writing.proofs.Putting.{Parted, first-room, next-room, both-inside, put-both}
 use borrow.Author.Needs.{needs}
 use Rattle.writing.proofs.parts.write_four.Statement.{statement}

@@ -9,8 +9,8 @@ use mir.Facts.{toZ-ofZ}
 use lib.ListN.{length}
 use borrow.Rule.Slice.PartMut.{midOf}
 use Rattle.fields.specs.Integers.{taken}
-use Rattle.messages.specs.Answer.{Put}
-use Rattle.messages.proofs.Writing.{Room}
+use Rattle.message_writers.specs.Put.{Put}
+use Rattle.message_writers.proofs.Writing.{Room}
 use Rattle.writing.proofs.Putting.{Parted, first-room, next-room, both-inside, put-both}
 use borrow.Author.Needs.{needs}
 use Rattle.writing.proofs.parts.write_two.Statement.{statement}

@@ -8,7 +8,7 @@ use lib.ListN.{length}
 use Rattle.fields.specs.Integers.{taken}
 use Rattle.framing.specs.Format.{frameHeadFormat}
 use Rattle.touch.specs.Touch.{frameHead}
-use Rattle.messages.proofs.Writing.{Room}
+use Rattle.message_writers.proofs.Writing.{Room}
 use Rattle.writing.proofs.Putting.{Parted, first-room, next-room, both-inside, put-both}
 use borrow.Author.Needs.{needs}
 use Rattle.writing.proofs.spell.write_frame_head.Statement.{statement}

@@ -7,7 +7,7 @@ use lib.ListN.{length, drop}
 use borrow.Rule.Slice.PartMut.{putMid}
 use Rattle.formats.proofs.Steps.{tail}
 use Rattle.house.specs.Layout.{recordOf}
-use Rattle.messages.proofs.Writing.{Room}
+use Rattle.message_writers.proofs.Writing.{Room}
 use Rattle.writing.specs.Spelling.{spelling, spelt, Spelt}
 use Rattle.writing.proofs.Putting.{Partly, partly-none, partly-room, partly-more, partly-all}
 use Rattle.writing.proofs.Spelt.{spelt-none, Next, next}

@@ -1,0 +1,4 @@
+pub mod Front
+pub mod Writing
+pub mod RoundTrip
+pub mod Unique

@@ -1,0 +1,2 @@
+-- What writers promise whose callers have made room.
+pub mod Put

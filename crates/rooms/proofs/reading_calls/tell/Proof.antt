@@ -1,0 +1,114 @@
+use borrow.Author.Needs.{needs}
+use Rattle.rooms.proofs.reading_calls.tell.Statement.{statement}
+use Rattle.rooms.proofs.reading_calls.tell.Tie as tie
+use Rattle.rooms.proofs.reading_calls.tell.Reads as reads
+use Rattle.rooms.proofs.reading_calls.tell.Lts as lts
+use Rattle.reading.proofs.read.Reads as read-reads
+use Rattle.rooms.proofs.lent.bytes_of.Reads as bytes-of-reads
+use Rattle.rooms.proofs.line.next.Reads as next-reads
+use Rattle.rooms.proofs.reading_calls.call.Reads as call-reads
+
+-- src/reading_calls.rt:34:9
+read-requires : tie.Need-read-requires
+read-requires c κs = search needs
+
+-- src/reading_calls.rt:35:9
+bytes-of-requires : tie.Need-bytes-of-requires
+bytes-of-requires c κs = search needs
+
+-- src/reading_calls.rt:36:9
+next-requires : tie.Need-next-requires
+next-requires c κs = search needs
+
+-- src/reading_calls.rt:38:41
+slice-relend-prefix-call : tie.Need-slice-relend-prefix-call
+slice-relend-prefix-call c = search needs
+
+-- src/reading_calls.rt:38:41
+slice-aggregate-call : tie.Need-slice-aggregate-call
+slice-aggregate-call c = search needs
+
+-- src/reading_calls.rt:38:9
+call-requires : tie.Need-call-requires
+call-requires c κs = search needs
+
+-- src/reading_calls.rt:38:9
+same-length : tie.Need-same-length
+same-length c = search needs
+
+-- src/reading_calls.rt:38:9
+same-length-2 : tie.Need-same-length-2
+same-length-2 c = search needs
+
+-- src/reading_calls.rt:38:9
+returns : tie.Need-returns
+returns c = search needs
+
+-- src/reading_calls.rt:40:55
+sub-call : tie.Need-sub-call
+sub-call c = search needs
+
+-- src/reading_calls.rt:40:41
+slice-relend-prefix-call-2 : tie.Need-slice-relend-prefix-call-2
+slice-relend-prefix-call-2 c = search needs
+
+-- src/reading_calls.rt:40:41
+slice-aggregate-call-2 : tie.Need-slice-aggregate-call-2
+slice-aggregate-call-2 c = ?
+
+-- src/reading_calls.rt:40:9
+call-requires-2 : tie.Need-call-requires-2
+call-requires-2 c κs = search needs
+
+-- src/reading_calls.rt:41:9
+next-requires-2 : tie.Need-next-requires-2
+next-requires-2 c κs = search needs
+
+-- src/reading_calls.rt:42:27
+slice-relend-prefix-call-3 : tie.Need-slice-relend-prefix-call-3
+slice-relend-prefix-call-3 c = search needs
+
+-- src/reading_calls.rt:42:27
+slice-aggregate-call-3 : tie.Need-slice-aggregate-call-3
+slice-aggregate-call-3 c = ?
+
+-- src/reading_calls.rt:42:5
+call-requires-3 : tie.Need-call-requires-3
+call-requires-3 c κs = search needs
+
+-- src/reading_calls.rt:26:1
+same-length-3 : tie.Need-same-length-3
+same-length-3 c = search needs
+
+-- src/reading_calls.rt:26:1
+same-length-4 : tie.Need-same-length-4
+same-length-4 c = search needs
+
+-- src/reading_calls.rt:26:1
+returns-2 : tie.Need-returns-2
+returns-2 c = search needs
+
+pub tell-spec : {M : Type 1} → statement M
+tell-spec =
+    tie.close
+    (tie.spec
+    read-requires
+    bytes-of-requires
+    next-requires
+    slice-relend-prefix-call
+    slice-aggregate-call
+    call-requires
+    same-length
+    same-length-2
+    returns
+    sub-call
+    slice-relend-prefix-call-2
+    slice-aggregate-call-2
+    call-requires-2
+    next-requires-2
+    slice-relend-prefix-call-3
+    slice-aggregate-call-3
+    call-requires-3
+    same-length-3
+    same-length-4
+    returns-2)

@@ -11,6 +11,8 @@ mod writer_calls;
 use receiver::Receiver;
 use turns::Stand;
 use turns::Turn;
+ghost use Prim.Native.Nat.{_≤_};
+ghost use lib.ListN.{length};
 
 // The receiver after an entry, and where the page goes on.
 struct Told {
@@ -38,8 +40,11 @@ fn take_entry(
     }
 }
 
-// A proved loop has to end, and nothing says that an input does: it stops at a number that no run reaches.
-fn run(space: &mut [u8], page: &mut [u8], output: &mut [u8], records: &mut [u8]) {
+// What is lent has room for the longest entry with its length, and for the longest line. A proved loop has to end, and nothing says that an
+// input does: it stops at a number that no run reaches.
+fn run(space: &mut [u8], page: &mut [u8], output: &mut [u8], records: &mut [u8])
+    requires { ⌜ (65537 ≤ length (now space)) × (98486 ≤ length (now page)) ⌝ }
+{
     let mut receiver = receiver::fresh();
     let mut stand = turns::begin();
     while stand.number < 0xFFFF_FFFF_FFFF_FFFF {

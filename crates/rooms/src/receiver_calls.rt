@@ -31,6 +31,19 @@ fn call(page: &mut [u8], place: usize, receiver: Receiver, entry: &[u8], out: &m
     }
 }
 
+// One call, with so many bytes of the output, or with all.
+fn call_with(
+    page: &mut [u8],
+    place: usize,
+    receiver: Receiver,
+    entry: &[u8],
+    output: &mut [u8],
+    room: usize,
+) -> Told {
+    let end = lent::at_most(room, output.len());
+    call(page, place, receiver, entry, &mut output[..end])
+}
+
 // An entry: the receiver that too little left is the one that is lent enough.
 pub(crate) fn tell(
     page: &mut [u8],
@@ -43,10 +56,10 @@ pub(crate) fn tell(
     let plenty = receiver::receive(receiver, entry, output);
     let enough = lent::bytes_of(plenty.answer.records, output.len());
     if enough == 0 {
-        return call(page, place, receiver, entry, &mut output[..0]);
+        return call_with(page, place, receiver, entry, output, 0);
     }
-    let less = call(page, place, receiver, entry, &mut output[..enough - 1]);
+    let less = call_with(page, place, receiver, entry, output, enough - 1);
     let same = less.receiver;
     let at = line::next(page, less.at, number);
-    call(page, at, same, entry, &mut output[..enough])
+    call_with(page, at, same, entry, output, enough)
 }

@@ -18,6 +18,19 @@ fn call(page: &mut [u8], place: usize, draft: Draft, records: &[u8], out: &mut [
     line::add_left(page, at, written.refusal, out)
 }
 
+// One call, with so many bytes of the output, or with all.
+fn call_with(
+    page: &mut [u8],
+    place: usize,
+    draft: Draft,
+    records: &[u8],
+    output: &mut [u8],
+    room: usize,
+) -> usize {
+    let end = lent::at_most(room, output.len());
+    call(page, place, draft, records, &mut output[..end])
+}
+
 // One writer, on lines of its own.
 fn tell_draft(
     page: &mut [u8],
@@ -28,14 +41,14 @@ fn tell_draft(
     output: &mut [u8],
 ) -> usize {
     let plenty = draft::write(draft, records, output);
-    let enough = lent::at_most(plenty.bytes, output.len());
+    let enough = plenty.bytes;
     let first = line::next(page, place, number);
     if enough == 0 {
-        return call(page, first, draft, records, &mut output[..0]);
+        return call_with(page, first, draft, records, output, 0);
     }
-    let less = call(page, first, draft, records, &mut output[..enough - 1]);
+    let less = call_with(page, first, draft, records, output, enough - 1);
     let at = line::next(page, less, number);
-    call(page, at, draft, records, &mut output[..enough])
+    call_with(page, at, draft, records, output, enough)
 }
 
 // A header of the event and the length that stand at an entry's front, little-endian.

@@ -17,13 +17,13 @@ pub(crate) enum Draft {
 
 pub(crate) fn write(draft: Draft, records: &[u8], out: &mut [u8]) -> Written {
     match draft {
-        Draft::Header(event, total) => messages::write_header(out, event, total),
+        Draft::Header(event, total) => message_writers::write_header(out, event, total),
         Draft::Touch(time) => writing::write_touch(out, time, records),
-        Draft::ServerReady(version) => messages::write_server_ready(out, version),
-        Draft::ClientReady(settings) => messages::write_client_ready(out, settings),
-        Draft::Suspend => messages::write_suspend(out),
-        Draft::Resume => messages::write_resume(out),
-        Draft::Dismiss(id) => messages::write_dismiss(out, id),
+        Draft::ServerReady(version) => message_writers::write_server_ready(out, version),
+        Draft::ClientReady(settings) => message_writers::write_client_ready(out, settings),
+        Draft::Suspend => message_writers::write_suspend(out),
+        Draft::Resume => message_writers::write_resume(out),
+        Draft::Dismiss(id) => message_writers::write_dismiss(out, id),
     }
 }
 

@@ -66,3 +66,11 @@ prints-then {s} {t} {at} {m} {n} {b} {c} {d} h k =
       inside = k .inside;
       long = k .long ∙ h .long;
     }
+
+-- texts before which the page is turned over where the longest has no room
+pub turned-adds : (ss : List (List ℕ)) (need place at next : ℕ) (before after : List ℕ) → at ≡ turnedTo need place before → place ≤ length before → need ≤ length before
+    → length (textOf ss) ≤ need → Added ss at next before after → Prints (textOf ss) place next before after
+turned-adds ss need place at next before after t h k l a =
+    let r = turned-has-room need place before k in
+    let x : Prints [] place at before before = rw t (turned-prints need place before h) in
+    prints-then x (added-prints ss at next before after (omega (arith, t, r)) a)

@@ -8,16 +8,17 @@ use native.Mathlib.Omega.{arith}
 use lib.Dec.{leb}
 use lib.ListN.{length, drop, length-append}
 use lib.Seq.{take-at, take-all}
-use borrow.Author.Tests.{le-leb, leb-true}
-use Rattle.paper.specs.Refusals.{none, noRoom}
+use borrow.Author.Tests.{le-leb}
+use Rattle.paper.specs.Refusals.{none}
 use Rattle.paper.specs.declared.Milliseconds.{Milliseconds}
-use Rattle.slices.specs.Writing.{laid, Draft, bytes, refuse, given, answered, left, Writes}
+use Rattle.slices.specs.Writing.{laid, Draft, bytes, refuse, given, answered, bytesOf, left, Writes}
 use Rattle.slices.specs.declared.Written.{Written}
+use Rattle.slices.proofs.Laws.{given-few}
 use Rattle.messages.specs.Header.{mostBytes}
 use Rattle.writing.specs.TouchDraft.{touchDraft}
 use Rattle.lines.specs.Page.{textOf, Added, decimal, space, frontText, writtenText}
 use Rattle.lines.proofs.Hexes.{written-short}
-use Rattle.writer.specs.Line.{timeIn, draftIn, bytesOf, draftText, shortWord, lineOf}
+use Rattle.writer.specs.Line.{timeIn, draftIn, draftText, shortWord, lineOf}
 
 -- the first bytes of an output over which they were laid
 front-laid : (d s : List ℕ) → frontText (length s) (laid d s) ≡ frontText (length s) s
@@ -42,15 +43,6 @@ line-written l records time w before after at next p q h t r n k a =
     rw (le-leb _ _ k, sym e) a
 
 -- ---- how long it is
-
-given-few : (room : ℕ) (d : Draft) → answered (given room d) .bytes ≤ room
-unfolding given
-given-few room (bytes s) = go (leb (length s) room) refl
-  where
-    go : (b : Bool) → leb (length s) room ≡ b → answered (cond b (bytes s) (refuse noRoom)) .bytes ≤ room
-    go true e = leb-true _ _ e
-    go false e = omega arith
-given-few room (refuse e) = omega arith
 
 pub line-short : (l : List ℕ) → length (textOf (lineOf l)) ≤ 8235
 unfolding lineOf

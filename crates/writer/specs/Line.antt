@@ -7,7 +7,7 @@ use lib.Dec.{leb}
 use lib.ListN.{length, getD, drop}
 use Rattle.paper.specs.declared.Milliseconds.{Milliseconds}
 use Rattle.digits.specs.Digits.{joined}
-use Rattle.slices.specs.Writing.{Draft, bytes, refuse, given, answered}
+use Rattle.slices.specs.Writing.{Draft, given, answered, bytesOf}
 use Rattle.messages.specs.Header.{mostBytes}
 use Rattle.writing.specs.TouchDraft.{touchDraft}
 use Rattle.lines.specs.Page.{writtenText}
@@ -30,10 +30,6 @@ abbrev pub draftIn : List ℕ → Draft
 draftIn l = given mostBytes (touchDraft (timeIn l) (drop 4 l))
 
 -- ---- the texts
-
-abbrev pub bytesOf : Draft → List ℕ
-bytesOf (bytes s) = s
-bytesOf (refuse e) = []
 
 abbrev pub draftText : Draft → List (List ℕ)
 draftText d = writtenText (answered d) (bytesOf d)

@@ -1,100 +1,102 @@
--- `panel::run` is safe and ends: the numbers rise to the last.
--- Assumes nothing.
-use borrow.Author.Needs.{needs}
-use Prim.Native.Nat.{_-_}
-use mathlib.Core.Path.{_≡_, refl}
-use native.Mathlib.Omega.{arith}
-use lib.ListN.{length}
-use Rattle.turns.specs.Turns.{Begins}
-use Rattle.turns.proofs.Laws.{rises}
 use Rattle.panel.proofs.run.Statement.{statement}
 use Rattle.panel.proofs.run.Tie as tie
+use Rattle.panel.proofs.run.Reads as reads
+use Rattle.panel.proofs.run.Lts as lts
+use Rattle.commands.proofs.obey.Reads as obey-reads
+use Rattle.panel.proofs.tell.Reads as tell-reads
+use Rattle.panels.proofs.fresh.Reads as fresh-reads
+use Rattle.turns.proofs.begin.Reads as begin-reads
+use Rattle.turns.proofs.next_turn.Reads as next-turn-reads
 
 abbrev Inv-loop : tie.InvT-loop
-Inv-loop space₀ page₀ output₀ panel₀ stand₀ space page output panel stand = (length space ≡ length space₀) × (length page ≡ length page₀) × (length output ≡ length output₀)
+Inv-loop space₀ page₀ output₀ panel₀ stand₀ space page output panel stand = ?
 
 abbrev μ-loop : tie.MeasureT-loop
-μ-loop space₀ page₀ output₀ panel₀ stand₀ space page output panel stand = 18446744073709551615 - stand .number
+μ-loop space₀ page₀ output₀ panel₀ stand₀ space page output panel stand = ?
 
--- the entry that was found
-entry : (c : tie.After-known-told Inv-loop μ-loop) →
-    let t = c .before .before .before .before .before .before .before in
-    let g = c .before .turn .given .0 in
-    Begins (t .before .before .before .before .before .loop .stand) (length (t .next-turn .last .0)) (t .before .before .before .before .before .loop .page) (t .next-turn .last .1 .0) (g .0) (g .1 .0) (g .1 .1 .0)
-entry c = rw (c .before .turn .given .1) at (c .before .before .before .before .before .before .before .next-turn .ensures)
-
+-- src/main.rt:44:9
 fresh-requires : tie.Need-fresh-requires Inv-loop μ-loop
-fresh-requires c κs = search needs
+fresh-requires c κs = ?
 
+-- src/main.rt:45:9
 begin-requires : tie.Need-begin-requires Inv-loop μ-loop
-begin-requires c κs = search needs
+begin-requires c κs = ?
 
+-- src/main.rt:46:5
 loop-holds : tie.Need-loop-holds Inv-loop μ-loop
-loop-holds c = (refl, refl, refl)
+loop-holds c = ?
 
+-- src/main.rt:47:13
 next-turn-requires : tie.Need-next-turn-requires Inv-loop μ-loop
-next-turn-requires c κs = search needs
+next-turn-requires c κs = ?
 
+-- src/main.rt:48:25
 enum-known-turn : tie.Need-enum-known-turn Inv-loop μ-loop
-enum-known-turn c = search needs
+enum-known-turn c = ?
 
+-- src/main.rt:49:13
 enum-told : tie.Need-enum-told Inv-loop μ-loop
-enum-told c = search needs
+enum-told c = ?
 
+-- src/main.rt:49:13
 same-length : tie.Need-same-length Inv-loop μ-loop
-same-length c = search needs
+same-length c = ?
 
+-- src/main.rt:49:13
 same-length-2 : tie.Need-same-length-2 Inv-loop μ-loop
-same-length-2 c = search needs
+same-length-2 c = ?
 
+-- src/main.rt:49:13
 same-length-3 : tie.Need-same-length-3 Inv-loop μ-loop
-same-length-3 c = search needs
+same-length-3 c = ?
 
+-- src/main.rt:49:13
 returns : tie.Need-returns Inv-loop μ-loop
-returns c = search needs
+returns c = ?
 
+-- src/main.rt:51:44
 sub-obey : tie.Need-sub-obey Inv-loop μ-loop
-sub-obey c = entry c .order
+sub-obey c = ?
 
+-- src/main.rt:51:44
 part-obey-start : tie.Need-part-obey-start Inv-loop μ-loop
-part-obey-start c = entry (c .before) .order
+part-obey-start c = ?
 
+-- src/main.rt:51:44
 part-obey-end : tie.Need-part-obey-end Inv-loop μ-loop
-part-obey-end c = entry (c .before) .inside
+part-obey-end c = ?
 
+-- src/main.rt:51:13
 obey-requires : tie.Need-obey-requires Inv-loop μ-loop
-obey-requires c κs = search needs
+obey-requires c κs = ?
 
-add-answer-requires : tie.Need-add-answer-requires Inv-loop μ-loop
-add-answer-requires c κs = search needs
+-- src/main.rt:53:9
+tell-requires : tie.Need-tell-requires Inv-loop μ-loop
+tell-requires c κs = ?
 
-end-line-requires : tie.Need-end-line-requires Inv-loop μ-loop
-end-line-requires c κs = search needs
-
+-- src/main.rt:46:5
 loop-less : tie.Need-loop-less Inv-loop μ-loop
-loop-less c =
-    let k = c .before .before .before .before .before .before .before .before .before .before .before .before .before .before .before .before in
-    omega (arith, rises _ _ _ (entry k .number) (c .before .before .end-line .ensures .number) (k .before .before .before .before .before .before .before .before .before .before .if1 .taken))
+loop-less c = ?
 
+-- src/main.rt:46:5
 loop-again : tie.Need-loop-again Inv-loop μ-loop
-loop-again c =
-    let a = c .before .before .before .before .before .before in
-    let o = a .before .before .before .before .before .before in
-    let t = o .before .before .before .before .before .before .before .before .before .before .before in
-    let i = t .before .before .before .before .before .loop .inv in
-    (omega (arith, t .next-turn .kept .0, i .0), omega (arith, c .before .before .end-line .kept .0, a .add-answer .kept .0, t .next-turn .kept .1 .0, i .1), omega (arith, o .obey .kept .1 .1 .0, i .2))
+loop-again c = ?
 
+-- src/main.rt:41:1
 same-length-4 : tie.Need-same-length-4 Inv-loop μ-loop
-same-length-4 c = search needs
+same-length-4 c = ?
 
+-- src/main.rt:41:1
 same-length-5 : tie.Need-same-length-5 Inv-loop μ-loop
-same-length-5 c = search needs
+same-length-5 c = ?
 
+-- src/main.rt:41:1
 same-length-6 : tie.Need-same-length-6 Inv-loop μ-loop
-same-length-6 c = search needs
+same-length-6 c = ?
 
+-- src/main.rt:41:1
 returns-2 : tie.Need-returns-2 Inv-loop μ-loop
-returns-2 c = search needs
+returns-2 c = ?
 
 pub run-spec : {M : Type 1} → statement M
 run-spec =
@@ -116,8 +118,7 @@ run-spec =
     part-obey-start
     part-obey-end
     obey-requires
-    add-answer-requires
-    end-line-requires
+    tell-requires
     loop-less
     loop-again
     same-length-4

@@ -32,12 +32,16 @@ turned-has-room need at page h = go (leb (at + need) (length page)) refl
     go true e = leb-true _ _ e
     go false e = omega arith
 
+-- no text
+pub prints-none : (at : ℕ) (page : List ℕ) → at ≤ length page → Prints [] at at page page
+prints-none at page h = record { printed = []; all = sym (append-nil (take at page)); inside = h; long = refl }
+
 pub turned-prints : (need at : ℕ) (page : List ℕ) → at ≤ length page → Prints [] at (turnedTo need at page) page page
 unfolding turnedTo
 turned-prints need at page h = go (leb (at + need) (length page))
   where
     go : (b : Bool) → Prints [] at (cond b at 0) page page
-    go true = record { printed = []; all = sym (append-nil (take at page)); inside = h; long = refl }
+    go true = prints-none at page h
     go false = record { printed = take at page; all = refl; inside = omega arith; long = refl }
 
 -- ---- texts

@@ -19,11 +19,11 @@ const LINE_MOST: usize = 20 + 2 * 21 + 1 + 2 * messages::MESSAGE_MOST + 1;
 fn add_answer(page: &mut [u8], place: usize, obeyed: Obeyed, output: &[u8]) -> usize
     ensures { λ r. ⌜ Added (lineOf obeyed (now (output .entry))) place r (now (page .entry)) (now (page .exit)) ⌝ }
 {
-    if !obeyed.known {
-        return lines::add_text(page, place, b" bad");
+    if obeyed.known {
+        let written = obeyed.written;
+        return lines::add_written(page, place, written, output);
     }
-    let written = obeyed.written;
-    lines::add_written(page, place, written, output)
+    lines::add_text(page, place, b" bad")
 }
 
 // The rest of an entry's line, whole.

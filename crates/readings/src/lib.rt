@@ -66,13 +66,7 @@ fn add_back(
 }
 
 // Reads a message and says the rest of its line, whole.
-fn tell(
-    page: &mut [u8],
-    line: Stand,
-    message: &[u8],
-    output: &mut [u8],
-    strictly: bool,
-) -> Stand
+fn tell(page: &mut [u8], line: Stand, message: &[u8], output: &mut [u8], strictly: bool) -> Stand
     requires { ⌜ line .at + restMost ≤ length (now page) ⌝ }
     ensures { λ r. ⌜ Tells strictly (now (message .entry)) line (now (page .entry)) (now (page .exit)) (now (output .entry)) (now (output .exit)) r ⌝ }
 {

@@ -1,102 +1,107 @@
+-- `panel::run` is safe and ends: the numbers rise to the last. There is room for each line.
+-- Assumes nothing.
+use borrow.Author.Needs.{needs}
+use Prim.Native.Nat.{_-_}
+use mathlib.Core.Path.{_≡_, refl}
+use native.Mathlib.Omega.{arith}
+use lib.ListN.{length}
+use Rattle.commands.specs.Commands.{commandOf}
+use Rattle.commands.proofs.Carried.{obeyed-few}
+use Rattle.turns.proofs.Laws.{rises, Begins, turn-begins, line-has-room}
+use Rattle.panel.specs.Line.{lineMost}
 use Rattle.panel.proofs.run.Statement.{statement}
 use Rattle.panel.proofs.run.Tie as tie
-use Rattle.panel.proofs.run.Reads as reads
-use Rattle.panel.proofs.run.Lts as lts
-use Rattle.commands.proofs.obey.Reads as obey-reads
-use Rattle.panel.proofs.tell.Reads as tell-reads
-use Rattle.panels.proofs.fresh.Reads as fresh-reads
-use Rattle.turns.proofs.begin.Reads as begin-reads
-use Rattle.turns.proofs.next_turn.Reads as next-turn-reads
 
 abbrev Inv-loop : tie.InvT-loop
-Inv-loop space₀ page₀ output₀ panel₀ stand₀ space page output panel stand = ?
+Inv-loop space₀ page₀ output₀ panel₀ stand₀ space page output panel stand = (length space ≡ length space₀) × (length page ≡ length page₀) × (length output ≡ length output₀)
 
 abbrev μ-loop : tie.MeasureT-loop
-μ-loop space₀ page₀ output₀ panel₀ stand₀ space page output panel stand = ?
+μ-loop space₀ page₀ output₀ panel₀ stand₀ space page output panel stand = 18446744073709551615 - stand .number
 
--- src/main.rt:44:9
+-- the entry that was found
+entry : (c : tie.After-known-told Inv-loop μ-loop) →
+    let t = c .before .before .before .before .before .before .before in
+    let b = t .before .before .before .before .before .loop in
+    let g = c .before .turn .given .0 in
+    Begins (b .stand) lineMost (t .next-turn .last .0) (b .page) (t .next-turn .last .1 .0) (g .0) (g .1 .0) (g .1 .1 .0)
+entry c = let t = c .before .before .before .before .before .before .before in turn-begins _ _ _ _ _ _ _ _ _ (rw (c .before .turn .given .1) at (t .next-turn .ensures))
+
 fresh-requires : tie.Need-fresh-requires Inv-loop μ-loop
-fresh-requires c κs = ?
+fresh-requires c κs = search needs
 
--- src/main.rt:45:9
 begin-requires : tie.Need-begin-requires Inv-loop μ-loop
-begin-requires c κs = ?
+begin-requires c κs = search needs
 
--- src/main.rt:46:5
 loop-holds : tie.Need-loop-holds Inv-loop μ-loop
-loop-holds c = ?
+loop-holds c = (refl, refl, refl)
 
--- src/main.rt:47:13
 next-turn-requires : tie.Need-next-turn-requires Inv-loop μ-loop
-next-turn-requires c κs = ?
+next-turn-requires c κs = search needs
 
--- src/main.rt:48:25
 enum-known-turn : tie.Need-enum-known-turn Inv-loop μ-loop
-enum-known-turn c = ?
+enum-known-turn c = search needs
 
--- src/main.rt:49:13
 enum-told : tie.Need-enum-told Inv-loop μ-loop
-enum-told c = ?
+enum-told c = search needs
 
--- src/main.rt:49:13
 same-length : tie.Need-same-length Inv-loop μ-loop
-same-length c = ?
+same-length c = search needs
 
--- src/main.rt:49:13
 same-length-2 : tie.Need-same-length-2 Inv-loop μ-loop
-same-length-2 c = ?
+same-length-2 c = search needs
 
--- src/main.rt:49:13
 same-length-3 : tie.Need-same-length-3 Inv-loop μ-loop
-same-length-3 c = ?
+same-length-3 c = search needs
 
--- src/main.rt:49:13
 returns : tie.Need-returns Inv-loop μ-loop
-returns c = ?
+returns c = search needs
 
--- src/main.rt:51:44
 sub-obey : tie.Need-sub-obey Inv-loop μ-loop
-sub-obey c = ?
+sub-obey c = entry c .order
 
--- src/main.rt:51:44
 part-obey-start : tie.Need-part-obey-start Inv-loop μ-loop
-part-obey-start c = ?
+part-obey-start c = entry (c .before) .order
 
--- src/main.rt:51:44
 part-obey-end : tie.Need-part-obey-end Inv-loop μ-loop
-part-obey-end c = ?
+part-obey-end c = entry (c .before) .inside
 
--- src/main.rt:51:13
 obey-requires : tie.Need-obey-requires Inv-loop μ-loop
-obey-requires c κs = ?
+obey-requires c κs = search needs
 
--- src/main.rt:53:9
 tell-requires : tie.Need-tell-requires Inv-loop μ-loop
-tell-requires c κs = ?
+tell-requires c κs =
+    let o = c .before .before .before .before .before in
+    let k = o .before .before .before .before in
+    let b = k .before .before .before .before .before .before .before .before .before .before .before .before in
+    let p = b .before .before .before .before .before .before .pre in (
+      omega (arith, line-has-room _ _ _ _ _ _ _ _ (entry k) (omega arith) (omega (arith, b .loop .inv .1, p .1))),
+      omega (arith, obeyed-few _ (commandOf _) _ _ _ (o .obey .ensures), b .loop .inv .2, p .2),
+    )
 
--- src/main.rt:46:5
 loop-less : tie.Need-loop-less Inv-loop μ-loop
-loop-less c = ?
+loop-less c =
+    let k = c .before .before .before .before .before .before .before .before .before .before .before .before in
+    omega (arith, rises _ _ _ (entry k .number) (c .before .before .tell .ensures .number) (k .before .before .before .before .before .before .before .before .before .before .if1 .taken))
 
--- src/main.rt:46:5
 loop-again : tie.Need-loop-again Inv-loop μ-loop
-loop-again c = ?
+loop-again c =
+    let a = c .before .before in
+    let o = a .before .before .before .before .before .before in
+    let t = o .before .before .before .before .before .before .before .before .before .before .before in
+    let i = t .before .before .before .before .before .loop .inv in
+    (omega (arith, t .next-turn .kept .0, i .0), omega (arith, a .tell .kept .0, t .next-turn .kept .1 .0, i .1), omega (arith, o .obey .kept .1 .1 .0, i .2))
 
--- src/main.rt:41:1
 same-length-4 : tie.Need-same-length-4 Inv-loop μ-loop
-same-length-4 c = ?
+same-length-4 c = search needs
 
--- src/main.rt:41:1
 same-length-5 : tie.Need-same-length-5 Inv-loop μ-loop
-same-length-5 c = ?
+same-length-5 c = search needs
 
--- src/main.rt:41:1
 same-length-6 : tie.Need-same-length-6 Inv-loop μ-loop
-same-length-6 c = ?
+same-length-6 c = search needs
 
--- src/main.rt:41:1
 returns-2 : tie.Need-returns-2 Inv-loop μ-loop
-returns-2 c = ?
+returns-2 c = search needs
 
 pub run-spec : {M : Type 1} → statement M
 run-spec =

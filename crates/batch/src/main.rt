@@ -11,6 +11,9 @@ ghost use lib.ListN.{length};
 // What stands before a buffer: the room, four bytes, and the places, two.
 const HEAD: usize = 6;
 
+// The longest line of an entry: 169 bytes with the end of the line before it, two digits for each byte that a message wrote, and its own end.
+const LINE_MOST: usize = 169 + 2 * receiver::OUTPUT_MOST + 1;
+
 // The receiver after a buffer, and where the page goes on.
 struct Told {
     receiver: Receiver,
@@ -51,7 +54,7 @@ fn add_answers(
         if output.len() < from {
             return at;
         }
-        at = lines::turn_over(page, at);
+        at = lines::turn_over(page, at, LINE_MOST);
         at = batch_lines::add_answer(page, at, number, k, &answers[first..], &output[from..]);
         // the last number of an answer is how many records it wrote
         from += batch_lines::bytes_of(answers[first + 5]);
@@ -125,7 +128,7 @@ fn run(space: &mut [u8], page: &mut [u8], answers: &mut [u32], output: &mut [u8]
     let mut receiver = receiver::fresh();
     let mut stand = turns::begin();
     while stand.number < 0xFFFF_FFFF_FFFF_FFFF {
-        let turn = turns::next_turn(space, page, stand);
+        let turn = turns::next_turn(space, page, stand, LINE_MOST);
         let Turn::Entry(from, to, line) = turn else {
             return;
         };
@@ -137,8 +140,6 @@ fn run(space: &mut [u8], page: &mut [u8], answers: &mut [u32], output: &mut [u8]
 
 fn main() {
     let mut space = [0u8; feed::SPACE];
-    // A line is begun with less than half of the page full. It has at most 169 bytes and two digits for each byte that a message
-    // wrote, of which there are at most 48 KiB: 98,473 bytes, and the other half has 131,072.
     let mut page = [0u8; 262144];
     let mut answers = [0u32; 4096 * intake::ANSWER_NUMBERS];
     let mut output = [0u8; 131072];

@@ -1,31 +1,20 @@
 -- How long the line of an entry is: a page with that much room has all of it.
 -- Assumes nothing.
 use Prim.Native.Nat.{ℕ, _+_, _*_, _≤_}
-use mathlib.Core.Path.{_≡_, refl, ap, _∙_}
+use mathlib.Core.Path.{_≡_, ap, _∙_}
 use mathlib.Core.Bool.{Bool, true, false, cond}
-use mathlib.Core.List.{List, [], _∷_, _++_}
+use mathlib.Core.List.{List, [], _++_}
 use native.Mathlib.Omega.{arith}
-use borrow.Author.Tests.{leb-true}
-use lib.Dec.{eqb, leb}
-use lib.ListN.{length, take, getD, length-append}
-use lib.Seq.{length-take-le}
+use lib.Dec.{leb}
+use lib.ListN.{length, getD, length-append}
 use Rattle.slices.proofs.Tails.{laidAt}
 use Rattle.house.specs.Fields.{recordBytes}
 use Rattle.intake.specs.Feeding.{answerNumbers}
-use Rattle.lines.specs.Page.{Placed, textOf, Added, decimal, space, hexes, frontText}
+use Rattle.lines.specs.Page.{Placed, textOf, Added, decimal, frontText}
 use Rattle.lines.proofs.Adding.{all-with-room}
 use Rattle.lines.proofs.Decimal.{digits-few}
-use Rattle.lines.proofs.Hexes.{hexes-long}
+use Rattle.lines.proofs.Hexes.{front-short}
 use Rattle.batch_lines.specs.Lines.{nameText, numbersText, answerText}
-
-front-short : (n : ℕ) (l : List ℕ) → length (textOf (frontText n l)) ≤ 1 + 2 * n
-unfolding frontText
-front-short n l = go (eqb n 0) (leb n (length l)) refl
-  where
-    go : (b c : Bool) → leb n (length l) ≡ c → length (textOf (cond b [] (cond c (space ∷ hexes (take n l)) []))) ≤ 1 + 2 * n
-    go true c e = omega arith
-    go false false e = omega arith
-    go false true e = let h : n ≤ length l = leb-true _ _ e in omega (arith, hexes-long (take n l), length-take-le n l h)
 
 answer-short : (number k : ℕ) (a output : List ℕ) → length (textOf (answerText number k a output)) ≤ 169 + 2 * (recordBytes * getD a 5 0)
 unfolding answerText

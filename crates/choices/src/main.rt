@@ -14,6 +14,10 @@ const LIST_MOST: usize = 64;
 // How many choices are lent at most: no entry has more records.
 const ROOM_MOST: usize = 4096;
 
+// A line is shorter: an entry has at most 3,120 records, of each of which at most one choice comes. Of these a line has 15 bytes each, an id
+// of at most 3 digits and an item of at most 10 behind a space and a colon; and 63 beside them: 46,863 bytes.
+const LINE_MOST: usize = 65536;
+
 // A label and its list, whose other places are hidden.
 struct Screen {
     label: Label,
@@ -249,7 +253,7 @@ fn run(space: &mut [u8], page: &mut [u8], choices: &mut [u32]) {
     let mut screen = empty();
     let mut stand = turns::begin();
     while stand.number < 0xFFFF_FFFF_FFFF_FFFF {
-        let turn = turns::next_turn(space, page, stand);
+        let turn = turns::next_turn(space, page, stand, LINE_MOST);
         let Turn::Entry(from, to, line) = turn else {
             return;
         };
@@ -259,10 +263,9 @@ fn run(space: &mut [u8], page: &mut [u8], choices: &mut [u32]) {
     }
 }
 
-// Half a page is longer than any line.
 fn main() {
     let mut space = [0u8; 131072];
-    let mut page = [0u8; 131072];
+    let mut page = [0u8; 2 * LINE_MOST];
     let mut choices = [0u32; 8192];
     run(&mut space, &mut page, &mut choices);
 }

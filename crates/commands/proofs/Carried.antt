@@ -1,4 +1,4 @@
--- What is lent of an output, and what a call that was lent it did.
+-- What is lent of an output, and what a call that was lent it did; how much a command writes.
 -- Assumes nothing.
 use Prim.Native.Nat.{ℕ, _≤_}
 use mathlib.Core.Path.{_≡_, refl, ap}
@@ -6,12 +6,13 @@ use mathlib.Core.Bool.{Bool, true, false, cond}
 use mathlib.Core.List.{List, [], _∷_, _++_}
 use native.Mathlib.Omega.{arith}
 use lib.Dec.{leb}
-use lib.ListN.{length, take, drop}
+use lib.ListN.{length, take, drop, length-append, take-append-drop}
 use borrow.Author.Tests.{leb-true}
-use Rattle.panels.specs.Panel.{Sending, Sends}
+use Rattle.slices.proofs.Laws.{given-few}
+use Rattle.panels.specs.Panel.{Sending, Sends, readySending, touchSending, dismissSending}
 use Rattle.panels.specs.declared.Panel.{Panel}
 use Rattle.sending.specs.declared.Outgoing.{Outgoing}
-use Rattle.commands.specs.Commands.{unknown, commandOf, lentOf, Lends}
+use Rattle.commands.specs.Commands.{Command, arrives, declares, touches, dismisses, unknown, commandOf, lentOf, Lends, Obeys}
 use Rattle.commands.specs.declared.Obeyed.{Obeyed}
 
 pub lent-inside : (room all n : ℕ) → n ≡ lentOf room all → n ≤ all
@@ -33,3 +34,18 @@ pub command-none : (l : List ℕ) → length l ≡ 0 → commandOf l ≡ unknown
 unfolding commandOf
 command-none [] h = refl
 command-none (x ∷ l) h = absurd (omega arith)
+
+-- ---- no more is written than the output has
+
+lent-few : (n : ℕ) (p : Panel) (s : Sending) (r : Obeyed) (before after : List ℕ) → Lends n p s r before after → r .written .bytes ≤ length before
+lent-few n p s r before after h =
+    let k = length-append (take n before) (drop n before) in
+    let e = ap length (take-append-drop n before) in
+    rw (h .sends .writes .answer) (omega (arith, k, e, given-few (length (take n before)) (s .draft)))
+
+pub obeyed-few : (p : Panel) (c : Command) (r : Obeyed) (before after : List ℕ) → Obeys p c r before after → r .written .bytes ≤ length before
+obeyed-few p (arrives message) r before after h = omega (arith, h .bytes)
+obeyed-few p (declares room settings) r before after h = lent-few (lentOf room (length before)) p (readySending p settings) r before after h
+obeyed-few p (touches room time records) r before after h = lent-few (lentOf room (length before)) p (touchSending p time records) r before after h
+obeyed-few p (dismisses room id) r before after h = lent-few (lentOf room (length before)) p (dismissSending p id) r before after h
+obeyed-few p unknown r before after h = rw (h .answer) (omega arith)

@@ -1,2 +1,3 @@
 -- Feeding a file entry by entry.
 mod Inside
+mod Laws

@@ -4,44 +4,58 @@
 use entries::Front;
 use receiver::Answer;
 use receiver::Marks;
+ghost use Prim.Native.Nat.{_≤_};
+ghost use lib.ListN.{length};
+ghost use Rattle.lines.specs.Page.{textOf, Added, Prints};
+ghost use Rattle.in_place.specs.Line.{lineMost, leftText, lineOf, cutLine, Stands};
 
-// A space and a number.
-fn add_spaced(page: &mut [u8], place: usize, n: u64) -> usize {
-    let at = lines::add_byte(page, place, b' ');
-    lines::add_number(page, at, n)
+// The longest line: its number and six more of at most 20 digits, these behind a space each, and the line's end. A line ` cut` is shorter.
+const LINE_MOST: usize = 20 + 6 * 21 + 1;
+
+// What an entry left in the receiver, and the line's end.
+fn add_left(page: &mut [u8], place: usize, marks: Marks, active: u16) -> usize
+    ensures { λ r. ⌜ Added (leftText marks active) place r (now (page .entry)) (now (page .exit)) ⌝ }
+{
+    let ready = lines::add_field(page, place, marks.ready as u64);
+    let begun = lines::add_field(page, ready, marks.begun as u64);
+    let ignoring = lines::add_field(page, begun, marks.ignoring as u64);
+    let counted = lines::add_field(page, ignoring, active as u64);
+    lines::add_byte(page, counted, b'\n')
 }
 
-fn wide(n: u16) -> u64 {
-    n as u64
-}
-
-// The receiver that an entry left.
-fn add_left(page: &mut [u8], place: usize, marks: Marks, states: &[u8; 256]) -> usize {
-    let mut at = add_spaced(page, place, marks.ready as u64);
-    at = add_spaced(page, at, marks.begun as u64);
-    at = add_spaced(page, at, marks.ignoring as u64);
-    at = add_spaced(page, at, wide(contacts::count_active(states)));
-    lines::add_byte(page, at, b'\n')
-}
-
-// The line of an entry.
+// The line of an entry, whole; the page is printed before it where it has to be.
 fn add_line(
     page: &mut [u8],
     place: usize,
     number: u64,
     answer: Answer,
     marks: Marks,
-    states: &[u8; 256],
-) -> usize {
-    let mut at = lines::add_number(page, place, number);
-    at = add_spaced(page, at, answer.refusal as u64);
-    at = add_spaced(page, at, answer.records as u64);
-    at = add_left(page, at, marks, states);
-    lines::turn_over(page, at)
+    active: u16,
+) -> usize
+    requires { ⌜ Stands place (now page) ⌝ }
+    ensures { λ r. ⌜ Prints (textOf (lineOf number answer marks active)) place r (now (page .entry)) (now (page .exit)) ⌝ }
+{
+    let at = lines::turn_over(page, place, LINE_MOST);
+    let numbered = lines::add_number(page, at, number);
+    let refused = lines::add_field(page, numbered, answer.refusal as u64);
+    let recorded = lines::add_field(page, refused, answer.records as u64);
+    add_left(page, recorded, marks, active)
+}
+
+// The line of an entry that is cut.
+fn add_last(page: &mut [u8], place: usize, number: u64) -> usize
+    requires { ⌜ Stands place (now page) ⌝ }
+    ensures { λ r. ⌜ Prints (textOf (cutLine number)) place r (now (page .entry)) (now (page .exit)) ⌝ }
+{
+    let at = lines::turn_over(page, place, LINE_MOST);
+    lines::add_cut(page, at, number)
 }
 
 // The entries of a file to a receiver where it stands, one after the other; answers where the page ends.
-fn run(file: &[u8], page: &mut [u8], output: &mut [u8]) -> usize {
+fn run(file: &[u8], page: &mut [u8], output: &mut [u8]) -> usize
+    requires { ⌜ lineMost ≤ length (now page) ⌝ }
+    ensures { λ r. ⌜ r ≤ length (now (page .exit)) ⌝ }
+{
     let mut receiver = kangirlo::kangirlo_fresh();
     let mut number: u64 = 1;
     let mut at: usize = 0;
@@ -49,7 +63,7 @@ fn run(file: &[u8], page: &mut [u8], output: &mut [u8]) -> usize {
     while from < file.len() {
         let front = entries::read_front(&file[from..]);
         let Front::Entry(n) = front else {
-            return lines::add_cut(page, at, number);
+            return add_last(page, at, number);
         };
         let start = from + 2;
         let end = start + n;
@@ -57,7 +71,8 @@ fn run(file: &[u8], page: &mut [u8], output: &mut [u8]) -> usize {
         receiver = received.receiver;
         let states = receiver.states;
         let marks = receiver::marks_of(receiver);
-        at = add_line(page, at, number, received.answer, marks, &states);
+        let active = contacts::count_active(&states);
+        at = add_line(page, at, number, received.answer, marks, active);
         number += 1;
         from = end;
     }
@@ -65,7 +80,10 @@ fn run(file: &[u8], page: &mut [u8], output: &mut [u8]) -> usize {
 }
 
 // The same to a receiver in parts.
-fn run_parts(file: &[u8], page: &mut [u8], output: &mut [u8]) -> usize {
+fn run_parts(file: &[u8], page: &mut [u8], output: &mut [u8]) -> usize
+    requires { ⌜ lineMost ≤ length (now page) ⌝ }
+    ensures { λ r. ⌜ r ≤ length (now (page .exit)) ⌝ }
+{
     let receiver = kangirlo::kangirlo_fresh();
     let mut marks = receiver::marks_of(receiver);
     let mut states = receiver.states;
@@ -78,7 +96,7 @@ fn run_parts(file: &[u8], page: &mut [u8], output: &mut [u8]) -> usize {
     while from < file.len() {
         let front = entries::read_front(&file[from..]);
         let Front::Entry(n) = front else {
-            return lines::add_cut(page, at, number);
+            return add_last(page, at, number);
         };
         let start = from + 2;
         let end = start + n;
@@ -93,7 +111,8 @@ fn run_parts(file: &[u8], page: &mut [u8], output: &mut [u8]) -> usize {
             &mut held,
         );
         marks = turn.marks;
-        at = add_line(page, at, number, turn.answer, marks, &states);
+        let active = contacts::count_active(&states);
+        at = add_line(page, at, number, turn.answer, marks, active);
         number += 1;
         from = end;
     }

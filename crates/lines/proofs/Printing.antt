@@ -32,12 +32,16 @@ turned-has-room need at page h = go (leb (at + need) (length page)) refl
     go true e = leb-true _ _ e
     go false e = omega arith
 
+-- no text
+pub prints-none : (at : ℕ) (page : List ℕ) → at ≤ length page → Prints [] at at page page
+prints-none at page h = record { printed = []; all = sym (append-nil (take at page)); inside = h; long = refl }
+
 pub turned-prints : (need at : ℕ) (page : List ℕ) → at ≤ length page → Prints [] at (turnedTo need at page) page page
 unfolding turnedTo
 turned-prints need at page h = go (leb (at + need) (length page))
   where
     go : (b : Bool) → Prints [] at (cond b at 0) page page
-    go true = record { printed = []; all = sym (append-nil (take at page)); inside = h; long = refl }
+    go true = prints-none at page h
     go false = record { printed = take at page; all = refl; inside = omega arith; long = refl }
 
 -- ---- texts
@@ -66,3 +70,11 @@ prints-then {s} {t} {at} {m} {n} {b} {c} {d} h k =
       inside = k .inside;
       long = k .long ∙ h .long;
     }
+
+-- texts before which the page is turned over where the longest has no room
+pub turned-adds : (ss : List (List ℕ)) (need place at next : ℕ) (before after : List ℕ) → at ≡ turnedTo need place before → place ≤ length before → need ≤ length before
+    → length (textOf ss) ≤ need → Added ss at next before after → Prints (textOf ss) place next before after
+turned-adds ss need place at next before after t h k l a =
+    let r = turned-has-room need place before k in
+    let x : Prints [] place at before before = rw t (turned-prints need place before h) in
+    prints-then x (added-prints ss at next before after (omega (arith, t, r)) a)

@@ -1,33 +1,37 @@
 // What the programs `plain` and `strict` share: a line for each entry of a bench file, with its number, the refusal, encodeTime and
 // records, and after an accepted one what writing it back gives.
-use paper::Milliseconds;
+use reading::PlainAnswer;
+use turns::Stand;
 use turns::Turn;
 ghost use mathlib.Core.Path.{_≡_};
+ghost use Prim.Native.Nat.{_+_, _*_, _≤_};
 ghost use lib.ListN.{length};
+ghost use Rattle.house.specs.Fields.{recordBytes};
+ghost use Rattle.lines.specs.Page.{Added};
+ghost use Rattle.readings.specs.Line.{outcomeText, backText, answerText, restMost, Tells};
+ghost use Rattle.readings.specs.Run.{Enough, Keeps, Runs};
 
-// Writes a message back from the time and the records that its reading left. Answers how many bytes it has, 0 where it is refused.
-fn write_back(again: &mut [u8], time: Milliseconds, output: &[u8], records: usize) -> usize {
-    if receiver::OUTPUT_MOST / house::RECORD_BYTES < records {
-        return 0;
-    }
-    let end = house::RECORD_BYTES * records;
-    if output.len() < end {
-        return 0;
-    }
-    let written = writing::write_touch(again, time, &output[..end]);
-    written.bytes
+// How much space the longest entry takes: two bytes of length and 65,535 more.
+const SPACE_LEAST: usize = 65537;
+
+// The longest line: the number of at most 20 digits; the refusal, encodeTime and the records, each a space and at most 20 digits;
+// ` becomes`, a space and at most 20 digits; and the line's end.
+const LINE_MOST: usize = 20 + 3 * 21 + 8 + 21 + 1;
+
+// What a reading answered.
+fn add_answer(page: &mut [u8], place: usize, answer: PlainAnswer) -> usize
+    ensures { λ r. ⌜ Added (answerText answer) place r (now (page .entry)) (now (page .exit)) ⌝ }
+{
+    let time = answer.time;
+    let refused = lines::add_field(page, place, answer.refusal as u64);
+    let timed = lines::add_field(page, refused, time.0 as u64);
+    lines::add_field(page, timed, answer.records as u64)
 }
 
-// Whether a message is the first n bytes of what was written.
-fn is_same(message: &[u8], again: &[u8], n: usize) -> bool {
-    if again.len() < n {
-        return false;
-    }
-    check::same(message, &again[..n])
-}
-
-// What is said of a message that was accepted: whether it came back the same, and where it was read leniently its length otherwise.
-fn add_back(page: &mut [u8], at: usize, same: bool, n: usize, strictly: bool) -> usize {
+// Whether a message came back the same, and where it was read leniently its length otherwise.
+fn add_outcome(page: &mut [u8], at: usize, same: bool, n: usize, strictly: bool) -> usize
+    ensures { λ r. ⌜ Added (outcomeText strictly same n) at r (now (page .entry)) (now (page .exit)) ⌝ }
+{
     if same {
         return lines::add_text(page, at, b" same");
     }
@@ -38,40 +42,69 @@ fn add_back(page: &mut [u8], at: usize, same: bool, n: usize, strictly: bool) ->
     lines::add_field(page, word, n as u64)
 }
 
-// What is said of a message after its number.
-fn add_reading(
+// A message that was accepted is written back from the time and the records that its reading left, and what came of it is said.
+fn add_back(
     page: &mut [u8],
     place: usize,
     message: &[u8],
-    output: &mut [u8],
+    output: &[u8],
+    answer: PlainAnswer,
     strictly: bool,
-) -> usize {
-    let answer = reading::read(message, output, strictly);
-    let time = answer.time;
-    let mut at = lines::add_field(page, place, answer.refusal as u64);
-    at = lines::add_field(page, at, time.0 as u64);
-    at = lines::add_field(page, at, answer.records as u64);
+) -> usize
+    requires { ⌜ recordBytes * answer .records ≤ length (now output) ⌝ }
+    ensures { λ r. ⌜ Added (backText strictly (now (message .entry)) answer (now (output .entry))) place r (now (page .entry)) (now (page .exit)) ⌝ }
+{
     if answer.refusal != 0 {
-        return at;
+        return place;
     }
+    let time = answer.time;
+    let end = house::RECORD_BYTES * answer.records;
     let mut again = [0u8; messages::MESSAGE_MOST];
-    let n = write_back(&mut again, time, output, answer.records);
-    let same = is_same(message, &again, n);
-    add_back(page, at, same, n, strictly)
+    let written = writing::write_touch(&mut again, time, &output[..end]);
+    let same = check::same(message, &again[..written.bytes]);
+    add_outcome(page, place, same, written.bytes, strictly)
 }
 
-// Reads standard input and prints its lines. A proved loop has to end, and nothing says that an input does: it stops at a number that
-// no run reaches.
-pub fn run(space: &mut [u8], page: &mut [u8], output: &mut [u8], strictly: bool)
-    ensures { λ _. ⌜ (length (now (space .exit)) ≡ length (now (space .entry))) × (length (now (page .exit)) ≡ length (now (page .entry))) × (length (now (output .exit)) ≡ length (now (output .entry))) ⌝ }
+// Reads a message and says the rest of its line, whole.
+fn tell(page: &mut [u8], line: Stand, message: &[u8], output: &mut [u8], strictly: bool) -> Stand
+    requires { ⌜ line .at + restMost ≤ length (now page) ⌝ }
+    ensures { λ r. ⌜ Tells strictly (now (message .entry)) line (now (page .entry)) (now (page .exit)) (now (output .entry)) (now (output .exit)) r ⌝ }
+{
+    let answer = reading::read(message, output, strictly);
+    let answered = add_answer(page, line.at, answer);
+    let at = add_back(page, answered, message, output, answer, strictly);
+    turns::end_line(page, line, at)
+}
+
+// A proved loop has to end, and nothing says that an input does: it stops at a number that no run reaches.
+fn print_lines(space: &mut [u8], page: &mut [u8], output: &mut [u8], strictly: bool)
+    requires { ⌜ Enough (now space) (now page) (now output) ⌝ }
+    ensures { λ _. ⌜ Keeps (now (space .entry)) (now (space .exit)) (now (page .entry)) (now (page .exit)) (now (output .entry)) (now (output .exit)) ⌝ }
 {
     let mut stand = turns::begin();
     while stand.number < 0xFFFF_FFFF_FFFF_FFFF {
-        let turn = turns::next_turn(space, page, stand);
+        let turn = turns::next_turn(space, page, stand, LINE_MOST);
         let Turn::Entry(from, to, line) = turn else {
             return;
         };
-        let at = add_reading(page, line.at, &space[from..to], output, strictly);
-        stand = turns::end_line(page, line, at);
+        stand = tell(page, line, &space[from..to], output, strictly);
     }
+}
+
+// Reads standard input and prints its lines; or, where a buffer is too small for the longest entry, line or records, does nothing and
+// answers false.
+pub fn run(space: &mut [u8], page: &mut [u8], output: &mut [u8], strictly: bool) -> bool
+    ensures { λ r. ⌜ Runs (now (space .entry)) (now (space .exit)) (now (page .entry)) (now (page .exit)) (now (output .entry)) (now (output .exit)) r ⌝ }
+{
+    if space.len() < SPACE_LEAST {
+        return false;
+    }
+    if page.len() < LINE_MOST {
+        return false;
+    }
+    if output.len() < receiver::OUTPUT_MOST {
+        return false;
+    }
+    print_lines(space, page, output, strictly);
+    true
 }

@@ -2,11 +2,15 @@
 -- Assumes nothing.
 use Prim.Native.Nat.{ℕ, _≤_, _<_}
 use mathlib.Core.Path.{_≡_, refl, sym, ap, _∙_}
+use mathlib.Core.Bool.{Bool, true, false, cond}
 use mathlib.Core.List.{List}
-use lib.ListN.{length}
-use borrow.Author.Tests.{le-leb, lt-leb}
+use native.Mathlib.Omega.{arith}
+use lib.Dec.{leb}
+use lib.ListN.{length, take, drop}
+use lib.Seq.{take-at}
+use borrow.Author.Tests.{le-leb, lt-leb, leb-true}
 use Rattle.paper.specs.Refusals.{none, noRoom}
-use Rattle.slices.specs.Writing.{laid, Draft, bytes, refuse, given, answered, left, Writes}
+use Rattle.slices.specs.Writing.{laid, Draft, bytes, refuse, given, answered, bytesOf, left, Writes}
 use Rattle.slices.specs.declared.Written.{Written}
 
 -- room enough: the bytes are written
@@ -23,6 +27,21 @@ given-none s room h = rw (lt-leb _ _ h)
 pub given-refuse : (e room : ℕ) → given room (refuse e) ≡ refuse e
 unfolding given
 given-refuse e room = refl
+
+-- no more bytes than the room are answered
+pub given-few : (room : ℕ) (d : Draft) → answered (given room d) .bytes ≤ room
+unfolding given
+given-few room (bytes s) = go (leb (length s) room) refl
+  where
+    go : (b : Bool) → leb (length s) room ≡ b → answered (cond b (bytes s) (refuse noRoom)) .bytes ≤ room
+    go true e = leb-true _ _ e
+    go false e = omega arith
+given-few room (refuse e) = omega arith
+
+-- what was written stands at the front of the output
+pub front-left : (d : Draft) (before : List ℕ) → take (answered d .bytes) (left before d) ≡ bytesOf d
+front-left (bytes s) before = take-at s (drop (length s) before) (length s) refl
+front-left (refuse e) before = refl
 
 -- the three ways of meeting the contract
 pub writes-bytes : (s : List ℕ) (w : Written) (before after : List ℕ) → length s ≤ length before

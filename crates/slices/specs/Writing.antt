@@ -2,7 +2,7 @@
 use Prim.Native.Nat.{ℕ}
 use mathlib.Core.Path.{_≡_}
 use mathlib.Core.Bool.{cond}
-use mathlib.Core.List.{List, _++_}
+use mathlib.Core.List.{List, [], _++_}
 use lib.Dec.{leb}
 use lib.ListN.{length, drop}
 use Rattle.paper.specs.Refusals.{none, noRoom}
@@ -26,6 +26,11 @@ given room (refuse e) = refuse e
 abbrev pub answered : Draft → Written
 answered (bytes s) = record { refusal = none; bytes = length s }
 answered (refuse e) = record { refusal = e; bytes = 0 }
+
+-- the bytes that are written: of a refusal none
+abbrev pub bytesOf : Draft → List ℕ
+bytesOf (bytes s) = s
+bytesOf (refuse e) = []
 
 -- ".. and the output stay[s] as [it was]"
 abbrev pub left : List ℕ → Draft → List ℕ

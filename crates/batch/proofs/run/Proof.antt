@@ -2,11 +2,11 @@
 -- Assumes nothing.
 use borrow.Author.Needs.{needs}
 use Prim.Native.Nat.{_-_}
-use mathlib.Core.Path.{_≡_, refl}
+use mathlib.Core.Path.{_≡_, refl, ap}
 use native.Mathlib.Omega.{arith}
 use lib.ListN.{length}
-use Rattle.turns.specs.Turns.{Begins}
-use Rattle.turns.proofs.Laws.{rises}
+use Rattle.turns.specs.declared.Stand.{Stand}
+use Rattle.turns.proofs.Laws.{rises, Begins, turn-begins}
 use Rattle.batch.proofs.run.Statement.{statement}
 use Rattle.batch.proofs.run.Tie as tie
 
@@ -20,9 +20,10 @@ abbrev μ-loop : tie.MeasureT-loop
 -- the entry that was found
 entry : (c : tie.After-known-told Inv-loop μ-loop) →
     let t = c .before .before .before .before .before .before .before in
+    let b = t .before .before .before .before .before .loop in
     let g = c .before .turn .given .0 in
-    Begins (t .before .before .before .before .before .loop .stand) (length (t .next-turn .last .0)) (t .before .before .before .before .before .loop .page) (t .next-turn .last .1 .0) (g .0) (g .1 .0) (g .1 .1 .0)
-entry c = rw (c .before .turn .given .1) at (c .before .before .before .before .before .before .before .next-turn .ensures)
+    Begins (b .stand) 98474 (t .next-turn .last .0) (b .page) (t .next-turn .last .1 .0) (g .0) (g .1 .0) (g .1 .1 .0)
+entry c = let t = c .before .before .before .before .before .before .before in turn-begins _ _ _ _ _ _ _ _ _ (rw (c .before .turn .given .1) at (t .next-turn .ensures))
 
 fresh-requires : tie.Need-fresh-requires Inv-loop μ-loop
 fresh-requires c κs = search needs
@@ -75,7 +76,7 @@ end-line-requires c κs = search needs
 loop-less : tie.Need-loop-less Inv-loop μ-loop
 loop-less c =
     let k = c .before .before .before .before .before .before .before .before .before .before .before .before .before .before .before .before .before in
-    omega (arith, rises _ _ _ (entry k .number) (c .before .before .end-line .ensures .number) (k .before .before .before .before .before .before .before .before .before .before .if1 .taken))
+    omega (arith, rises _ _ _ (entry k .number) (ap (λ (z : Stand). z .number) (c .before .before .end-line .ensures .stand)) (k .before .before .before .before .before .before .before .before .before .before .if1 .taken))
 
 loop-again : tie.Need-loop-again Inv-loop μ-loop
 loop-again c =

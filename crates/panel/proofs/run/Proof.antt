@@ -1,12 +1,14 @@
--- `panel::run` is safe and ends: the numbers rise to the last.
+-- `panel::run` is safe and ends: the numbers rise to the last. There is room for each line.
 -- Assumes nothing.
 use borrow.Author.Needs.{needs}
 use Prim.Native.Nat.{_-_}
 use mathlib.Core.Path.{_≡_, refl}
 use native.Mathlib.Omega.{arith}
 use lib.ListN.{length}
-use Rattle.turns.specs.Turns.{Begins}
-use Rattle.turns.proofs.Laws.{rises}
+use Rattle.commands.specs.Commands.{commandOf}
+use Rattle.commands.proofs.Carried.{obeyed-few}
+use Rattle.turns.proofs.Laws.{rises, Begins, turn-begins, line-has-room}
+use Rattle.panel.specs.Line.{lineMost}
 use Rattle.panel.proofs.run.Statement.{statement}
 use Rattle.panel.proofs.run.Tie as tie
 
@@ -19,9 +21,10 @@ abbrev μ-loop : tie.MeasureT-loop
 -- the entry that was found
 entry : (c : tie.After-known-told Inv-loop μ-loop) →
     let t = c .before .before .before .before .before .before .before in
+    let b = t .before .before .before .before .before .loop in
     let g = c .before .turn .given .0 in
-    Begins (t .before .before .before .before .before .loop .stand) (length (t .next-turn .last .0)) (t .before .before .before .before .before .loop .page) (t .next-turn .last .1 .0) (g .0) (g .1 .0) (g .1 .1 .0)
-entry c = rw (c .before .turn .given .1) at (c .before .before .before .before .before .before .before .next-turn .ensures)
+    Begins (b .stand) lineMost (t .next-turn .last .0) (b .page) (t .next-turn .last .1 .0) (g .0) (g .1 .0) (g .1 .1 .0)
+entry c = let t = c .before .before .before .before .before .before .before in turn-begins _ _ _ _ _ _ _ _ _ (rw (c .before .turn .given .1) at (t .next-turn .ensures))
 
 fresh-requires : tie.Need-fresh-requires Inv-loop μ-loop
 fresh-requires c κs = search needs
@@ -65,24 +68,28 @@ part-obey-end c = entry (c .before) .inside
 obey-requires : tie.Need-obey-requires Inv-loop μ-loop
 obey-requires c κs = search needs
 
-add-answer-requires : tie.Need-add-answer-requires Inv-loop μ-loop
-add-answer-requires c κs = search needs
-
-end-line-requires : tie.Need-end-line-requires Inv-loop μ-loop
-end-line-requires c κs = search needs
+tell-requires : tie.Need-tell-requires Inv-loop μ-loop
+tell-requires c κs =
+    let o = c .before .before .before .before .before in
+    let k = o .before .before .before .before in
+    let b = k .before .before .before .before .before .before .before .before .before .before .before .before in
+    let p = b .before .before .before .before .before .before .pre in (
+      omega (arith, line-has-room _ _ _ _ _ _ _ _ (entry k) (omega arith) (omega (arith, b .loop .inv .1, p .1))),
+      omega (arith, obeyed-few _ (commandOf _) _ _ _ (o .obey .ensures), b .loop .inv .2, p .2),
+    )
 
 loop-less : tie.Need-loop-less Inv-loop μ-loop
 loop-less c =
-    let k = c .before .before .before .before .before .before .before .before .before .before .before .before .before .before .before .before in
-    omega (arith, rises _ _ _ (entry k .number) (c .before .before .end-line .ensures .number) (k .before .before .before .before .before .before .before .before .before .before .if1 .taken))
+    let k = c .before .before .before .before .before .before .before .before .before .before .before .before in
+    omega (arith, rises _ _ _ (entry k .number) (c .before .before .tell .ensures .number) (k .before .before .before .before .before .before .before .before .before .before .if1 .taken))
 
 loop-again : tie.Need-loop-again Inv-loop μ-loop
 loop-again c =
-    let a = c .before .before .before .before .before .before in
+    let a = c .before .before in
     let o = a .before .before .before .before .before .before in
     let t = o .before .before .before .before .before .before .before .before .before .before .before in
     let i = t .before .before .before .before .before .loop .inv in
-    (omega (arith, t .next-turn .kept .0, i .0), omega (arith, c .before .before .end-line .kept .0, a .add-answer .kept .0, t .next-turn .kept .1 .0, i .1), omega (arith, o .obey .kept .1 .1 .0, i .2))
+    (omega (arith, t .next-turn .kept .0, i .0), omega (arith, a .tell .kept .0, t .next-turn .kept .1 .0, i .1), omega (arith, o .obey .kept .1 .1 .0, i .2))
 
 same-length-4 : tie.Need-same-length-4 Inv-loop μ-loop
 same-length-4 c = search needs
@@ -116,8 +123,7 @@ run-spec =
     part-obey-start
     part-obey-end
     obey-requires
-    add-answer-requires
-    end-line-requires
+    tell-requires
     loop-less
     loop-again
     same-length-4

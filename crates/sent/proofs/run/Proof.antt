@@ -1,23 +1,26 @@
--- `sent::run` is safe and ends: each entry takes one from what is left.
+-- `sent::run` is safe and ends: each entry takes one from what is left. There is room for what is written.
 -- Assumes nothing.
 use borrow.Author.Needs.{needs}
-use Prim.Native.Nat.{_^_, _<_}
+use Prim.Native.Nat.{_^_, _≤_, _<_}
 use mathlib.Core.Path.{_≡_, refl}
 use native.Mathlib.Omega.{arith}
 use lib.ListN.{length}
 use Rattle.feed.specs.Within.{Entered}
+use Rattle.commands.specs.Commands.{commandOf}
+use Rattle.commands.proofs.Carried.{obeyed-few}
 use Rattle.sent.proofs.run.Statement.{statement}
 use Rattle.sent.proofs.run.Tie as tie
 
 abbrev Inv-loop : tie.InvT-loop
-Inv-loop space₀ page₀ output₀ panel₀ window₀ at₀ left₀ space page output panel window at left = (length space ≡ length space₀) × (length page ≡ length page₀) × (length output ≡ length output₀)
+Inv-loop space₀ page₀ output₀ panel₀ window₀ at₀ left₀ space page output panel window at left =
+    (length space ≡ length space₀) × (length page ≡ length page₀) × (length output ≡ length output₀) × (at ≤ length page)
 
 abbrev μ-loop : tie.MeasureT-loop
 μ-loop space₀ page₀ output₀ panel₀ window₀ at₀ left₀ space page output panel window at left = left
 
 -- the entry that was found
 found : (c : tie.After-known-told Inv-loop μ-loop) → let g = c .before .next .given .0 in Entered (length (c .before .before .before .before .before .next-entry .last .0)) (g .0) (g .1 .0) (g .1 .1 .0)
-found c = rw (c .before .next .given .1) at (c .before .before .before .before .before .next-entry .ensures)
+found c = let n = c .before .before .before .before .before .next-entry in rw (c .before .next .given .1) at (n .ensures .within)
 
 short : (c : tie.After-known-told Inv-loop μ-loop) → length (c .before .before .before .before .before .next-entry .last .0) < 2 ^ 64
 short c = let n = c .before .before .before .before .before in omega (arith, n .next-entry .kept .0)
@@ -29,7 +32,7 @@ opened-requires : tie.Need-opened-requires Inv-loop μ-loop
 opened-requires c κs = search needs
 
 loop-holds : tie.Need-loop-holds Inv-loop μ-loop
-loop-holds c = (refl, refl, refl)
+loop-holds c = (refl, refl, refl, omega arith)
 
 next-entry-requires : tie.Need-next-entry-requires Inv-loop μ-loop
 next-entry-requires c κs = search needs
@@ -68,10 +71,13 @@ obey-requires : tie.Need-obey-requires Inv-loop μ-loop
 obey-requires c κs = search needs
 
 add-entry-requires : tie.Need-add-entry-requires Inv-loop μ-loop
-add-entry-requires c κs = search needs
-
-turn-over-requires : tie.Need-turn-over-requires Inv-loop μ-loop
-turn-over-requires c κs = search needs
+add-entry-requires c κs =
+    let o = c .before .before .before .before .before .before in
+    let b = o .before .before .before .before .before .before .before .before .before .before .before .before in
+    let p = b .before .before .before .before .before .before .pre in
+    let i = b .loop .inv in
+    let n = obeyed-few _ (commandOf _) _ _ _ (o .obey .ensures) in
+    (omega (arith, n, o .obey .kept .1 .1 .0), omega (arith, n, i .2, p .2), i .3, omega (arith, i .1, p .1))
 
 sub-left : tie.Need-sub-left Inv-loop μ-loop
 sub-left c = search needs
@@ -81,11 +87,11 @@ loop-less c = search needs
 
 loop-again : tie.Need-loop-again Inv-loop μ-loop
 loop-again c =
-    let a = c .before .before .before .before in
+    let a = c .before .before in
     let o = a .before .before .before .before .before .before .before in
     let t = o .before .before .before .before .before .before .before .before .before in
     let i = t .before .before .before .loop .inv in
-    (omega (arith, t .next-entry .kept .0, i .0), omega (arith, a .add-entry .kept .0, i .1), omega (arith, o .obey .kept .1 .1 .0, i .2))
+    (omega (arith, t .next-entry .kept .0, i .0), omega (arith, a .add-entry .kept .0, i .1), omega (arith, o .obey .kept .1 .1 .0, i .2), a .add-entry .ensures .inside)
 
 same-length-4 : tie.Need-same-length-4 Inv-loop μ-loop
 same-length-4 c = search needs
@@ -121,7 +127,6 @@ run-spec =
     part-obey-end
     obey-requires
     add-entry-requires
-    turn-over-requires
     sub-left
     loop-less
     loop-again

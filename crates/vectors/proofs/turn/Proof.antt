@@ -9,7 +9,7 @@ use Rattle.vectors.proofs.turn.Tie as tie
 
 -- the message that was found
 found : (c : tie.After-known-told) → Entered (length (c .before .before .before .before .before .next-entry .last .0)) (c .before .next .given .0 .0) (c .before .next .given .0 .1 .0) (c .before .next .given .0 .1 .1 .0)
-found c = rw (c .before .next .given .1) at (c .before .before .before .before .before .next-entry .ensures)
+found c = let n = c .before .before .before .before .before .next-entry in rw (c .before .next .given .1) at (n .ensures .within)
 
 next-entry-requires : tie.Need-next-entry-requires
 next-entry-requires c κs = search needs

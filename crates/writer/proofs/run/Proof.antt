@@ -1,12 +1,12 @@
--- `writer::run` is safe and ends: the numbers rise to the last.
+-- `writer::run` is safe and ends: the numbers rise to the last. There is room for each line.
 -- Assumes nothing.
 use borrow.Author.Needs.{needs}
 use Prim.Native.Nat.{_-_}
 use mathlib.Core.Path.{_≡_, refl}
 use native.Mathlib.Omega.{arith}
 use lib.ListN.{length}
-use Rattle.turns.specs.Turns.{Begins}
-use Rattle.turns.proofs.Laws.{rises}
+use Rattle.turns.proofs.Laws.{rises, Begins, turn-begins, line-has-room}
+use Rattle.writer.specs.Line.{lineMost}
 use Rattle.writer.proofs.run.Statement.{statement}
 use Rattle.writer.proofs.run.Tie as tie
 
@@ -19,9 +19,10 @@ abbrev μ-loop : tie.MeasureT-loop
 -- the entry that was found
 entry : (c : tie.After-known-told Inv-loop μ-loop) →
     let t = c .before .before .before .before .before .before .before in
+    let b = t .before .before .before .before .before .loop in
     let g = c .before .turn .given .0 in
-    Begins (t .before .before .before .before .before .loop .stand) (length (t .next-turn .last .0)) (t .before .before .before .before .before .loop .page) (t .next-turn .last .1 .0) (g .0) (g .1 .0) (g .1 .1 .0)
-entry c = rw (c .before .turn .given .1) at (c .before .before .before .before .before .before .before .next-turn .ensures)
+    Begins (b .stand) lineMost (t .next-turn .last .0) (b .page) (t .next-turn .last .1 .0) (g .0) (g .1 .0) (g .1 .1 .0)
+entry c = let t = c .before .before .before .before .before .before .before in turn-begins _ _ _ _ _ _ _ _ _ (rw (c .before .turn .given .1) at (t .next-turn .ensures))
 
 begin-requires : tie.Need-begin-requires Inv-loop μ-loop
 begin-requires c κs = search needs
@@ -47,25 +48,25 @@ same-length-2 c = search needs
 returns : tie.Need-returns Inv-loop μ-loop
 returns c = search needs
 
-sub-add-writing : tie.Need-sub-add-writing Inv-loop μ-loop
-sub-add-writing c = entry (c .before) .order
+sub-tell : tie.Need-sub-tell Inv-loop μ-loop
+sub-tell c = entry (c .before) .order
 
-part-add-writing-start : tie.Need-part-add-writing-start Inv-loop μ-loop
-part-add-writing-start c = entry (c .before .before) .order
+part-tell-start : tie.Need-part-tell-start Inv-loop μ-loop
+part-tell-start c = entry (c .before .before) .order
 
-part-add-writing-end : tie.Need-part-add-writing-end Inv-loop μ-loop
-part-add-writing-end c = entry (c .before .before) .inside
+part-tell-end : tie.Need-part-tell-end Inv-loop μ-loop
+part-tell-end c = entry (c .before .before) .inside
 
-add-writing-requires : tie.Need-add-writing-requires Inv-loop μ-loop
-add-writing-requires c κs = search needs
-
-end-line-requires : tie.Need-end-line-requires Inv-loop μ-loop
-end-line-requires c κs = search needs
+tell-requires : tie.Need-tell-requires Inv-loop μ-loop
+tell-requires c κs =
+    let k = c .before .before .before in
+    let b = k .before .before .before .before .before .before .before .before .before .before .before .before in
+    omega (arith, line-has-room _ _ _ _ _ _ _ _ (entry k) (omega arith) (omega (arith, b .loop .inv .1, b .before .before .before .before .pre .1)))
 
 loop-less : tie.Need-loop-less Inv-loop μ-loop
 loop-less c =
-    let k = c .before .before .before .before .before .before .before .before .before .before in
-    omega (arith, rises _ _ _ (entry k .number) (c .before .before .end-line .ensures .number) (k .before .before .before .before .before .before .before .before .before .before .if1 .taken))
+    let k = c .before .before .before .before .before .before in
+    omega (arith, rises _ _ _ (entry k .number) (c .before .before .tell .ensures .number) (k .before .before .before .before .before .before .before .before .before .before .if1 .taken))
 
 loop-again : tie.Need-loop-again Inv-loop μ-loop
 loop-again c = search needs
@@ -93,11 +94,10 @@ run-spec =
     same-length
     same-length-2
     returns
-    sub-add-writing
-    part-add-writing-start
-    part-add-writing-end
-    add-writing-requires
-    end-line-requires
+    sub-tell
+    part-tell-start
+    part-tell-end
+    tell-requires
     loop-less
     loop-again
     same-length-3

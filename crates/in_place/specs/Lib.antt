@@ -1,0 +1,2 @@
+-- The lines of the program.
+pub mod Line

@@ -1,0 +1,2 @@
+-- The line of an entry.
+mod Laws

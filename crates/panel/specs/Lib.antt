@@ -1,0 +1,2 @@
+-- The lines of the panel's program.
+pub mod Line

@@ -1,0 +1,2 @@
+-- The line of a message.
+mod Laws

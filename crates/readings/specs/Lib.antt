@@ -1,0 +1,3 @@
+-- The lines of the two plain readings, and the run that prints them.
+pub mod Line
+pub mod Run

@@ -1,0 +1,2 @@
+-- The entries that are written.
+mod Laws

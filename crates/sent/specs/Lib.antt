@@ -1,0 +1,2 @@
+-- The bench file that the program writes.
+pub mod Entry

@@ -1,0 +1,2 @@
+-- The lines of the touch writer's program.
+pub mod Line

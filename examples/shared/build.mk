@@ -16,6 +16,10 @@ compiler := x86_64-linux-gnu-gcc
 emulator := $(shell dirname "$$(dirname "$$(rt doc)")")/on/$(machine)/toolchain/bin/qemu-x86_64
 endif
 
+# Rust's compiler, 1.63 or later; it links by the C compiler
+RUSTC ?= rustc
+rust_flags := --edition 2021 -O --target x86_64-unknown-linux-gnu -C linker=$(compiler)
+
 $(archives)/lib%.a: $(sources)
 	cd $(top) && rt staticlib $*
 

@@ -1,6 +1,6 @@
 //! Many messages in one call.
 
-use super::{Milliseconds, RECORD_BYTES, Receiver, Records, Refusal, Taken, accepted, c};
+use super::{accepted, c, Milliseconds, Receiver, Records, Refusal, Taken, RECORD_BYTES};
 use std::mem::size_of;
 
 /// The place of an answer in the list that a batch is lent.

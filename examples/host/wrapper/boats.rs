@@ -2,7 +2,10 @@
 //!
 //!     boats FILE
 
-use kangirlo::{Button, CHOICES_MOST, Choice, Label, OUTPUT_MOST, Receiver, button_at, set_shown};
+mod bench_file;
+
+use bench_file::front;
+use kangirlo::{button_at, set_shown, Button, Choice, Label, Receiver, CHOICES_MOST, OUTPUT_MOST};
 
 const NAMES: [&str; 3] = ["Ternen", "Havblik", "Solvej"];
 const NOTE: u32 = 501;
@@ -37,11 +40,7 @@ fn main() -> std::io::Result<()> {
     let mut output = vec![0; OUTPUT_MOST];
     let mut choices = vec![Choice::default(); CHOICES_MOST];
     let mut number = 0;
-    while let [high, low, rest @ ..] = left {
-        let length = usize::from(u16::from_be_bytes([*high, *low]));
-        let Some((message, after)) = rest.split_at_checked(length) else {
-            break;
-        };
+    while let Some((message, after)) = front(left) {
         number += 1;
         if let Ok(taken) = receiver.receive(message, &mut output) {
             let chosen = label.choose(&boats, taken.records.bytes(), &mut choices);

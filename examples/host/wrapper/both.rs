@@ -3,8 +3,8 @@
 //! too: a panel given what was read sends the shortest message.
 
 use kangirlo::{
-    MESSAGE_MOST, Milliseconds, OUTPUT_MOST, Panel, Receiver, Refusal, Settings, plain,
-    plain_strictly, write_server_ready,
+    plain, plain_strictly, write_server_ready, Milliseconds, Panel, Receiver, Refusal, Settings,
+    MESSAGE_MOST, OUTPUT_MOST,
 };
 
 const VERSION: u32 = 0x0001_0001;

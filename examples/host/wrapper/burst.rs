@@ -3,17 +3,14 @@
 //!
 //!     burst FILE..
 
-use kangirlo::{BatchAnswer, OUTPUT_MOST, Receiver, Refusal};
+mod bench_file;
+
+use bench_file::front;
+use kangirlo::{BatchAnswer, Receiver, Refusal, OUTPUT_MOST};
 
 const BURST: usize = 20;
 /// Too little for some bursts, so that it runs out.
 const ROOM: usize = OUTPUT_MOST / 16;
-
-/// The message at the front of a part of a bench file, and what follows it.
-fn front(file: &[u8]) -> Option<(&[u8], &[u8])> {
-    let (length, rest) = file.split_first_chunk()?;
-    rest.split_at_checked(usize::from(u16::from_be_bytes(*length)))
-}
 
 /// The next messages of a bench file, so many at most.
 fn messages(mut file: &[u8]) -> Vec<&[u8]> {

@@ -8,9 +8,9 @@ mod label;
 mod panel;
 
 pub use batch::{Batch, BatchAnswer};
-pub use label::{Button, CHOICES_MOST, Choice, Label, button_at, set_shown};
+pub use label::{button_at, set_shown, Button, Choice, Label, CHOICES_MOST};
 pub use panel::Panel;
-use std::mem::{offset_of, size_of};
+use std::mem::size_of;
 
 pub const MESSAGE_MOST: usize = 4096;
 /// How many contacts a frame may have.
@@ -84,7 +84,8 @@ pub struct Receiver {
     held: [u8; 256],
 }
 
-const _: () = assert!(size_of::<Receiver>() == 2576 && offset_of!(Receiver, held) == 2320);
+// there are no bytes between the fields, so that `held`, the last, is at 2320
+const _: () = assert!(size_of::<Receiver>() == 2576);
 
 #[derive(Clone, Copy, Debug, PartialEq, Eq)]
 pub enum State {
@@ -340,7 +341,7 @@ pub fn write_dismiss(output: &mut [u8], id: u8) -> Result<usize, Refusal> {
 /// ones for its parts.
 mod c {
     use super::{
-        BatchAnswer, Button, Choice, Microseconds, Milliseconds, Panel, Receiver, Settings, size_of,
+        size_of, BatchAnswer, Button, Choice, Microseconds, Milliseconds, Panel, Receiver, Settings,
     };
 
     #[repr(C)]
@@ -449,7 +450,7 @@ mod c {
     const _: () = assert!(size_of::<Written>() == 16 && size_of::<Record>() == 40);
     const _: () = assert!(size_of::<Picked>() == 16);
 
-    unsafe extern "C" {
+    extern "C" {
         pub fn kangirlo_fresh() -> Receiver;
         pub fn kangirlo_receive_parts(
             marks: Marks,
@@ -551,7 +552,7 @@ mod c {
             numbers: usize,
         ) -> Picked;
         pub fn kangirlo_button_at(buttons: *const Button, how_many: usize, x: i32, y: i32)
-        -> usize;
+            -> usize;
         pub fn kangirlo_set_shown(
             buttons: *mut Button,
             how_many: usize,

@@ -1,6 +1,6 @@
 //! The label screen's buttons: which of them a touch meant.
 
-use super::{OUTPUT_MOST, RECORD_BYTES, Receiver, Refusal, State, accepted, c, state_of};
+use super::{accepted, c, state_of, Receiver, Refusal, State, OUTPUT_MOST, RECORD_BYTES};
 use std::mem::size_of;
 
 /// A button of a screen: its left and top edges are inside, right and bottom outside.

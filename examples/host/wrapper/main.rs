@@ -2,7 +2,10 @@
 //!
 //!     wrapper FILE
 
-use kangirlo::{OUTPUT_MOST, Receiver};
+mod bench_file;
+
+use bench_file::front;
+use kangirlo::{Receiver, OUTPUT_MOST};
 
 fn main() -> std::io::Result<()> {
     let name = std::env::args().nth(1).expect("usage: wrapper FILE");
@@ -10,11 +13,7 @@ fn main() -> std::io::Result<()> {
     let mut left = &file[..];
     let mut receiver = Receiver::new();
     let mut output = vec![0; OUTPUT_MOST];
-    while let [high, low, rest @ ..] = left {
-        let length = usize::from(u16::from_be_bytes([*high, *low]));
-        let Some((message, after)) = rest.split_at_checked(length) else {
-            break;
-        };
+    while let Some((message, after)) = front(left) {
         match receiver.receive(message, &mut output) {
             Ok(taken) => {
                 println!(

@@ -1,6 +1,6 @@
 //! The panel's end. What a panel writes, a receiver takes: nothing of it is refused, ignored or cancelled.
 
-use super::{Milliseconds, Refusal, Settings, State, accepted, c, state_of, written};
+use super::{accepted, c, state_of, written, Milliseconds, Refusal, Settings, State};
 use std::mem::size_of;
 
 /// One connection's panel. Its marks go by value, and its contacts are lent where they stand.

@@ -28,7 +28,7 @@ front-whole l n e = go (leb 2 (length l)) (leb (2 + lengthAt l) (length l)) refl
 pub front-inside : (l : List ℕ) (n : ℕ) → frontOf l ≡ Front.Entry n → 2 + n ≤ length l
 front-inside l n e = front-whole l n e .inside
 
-whole-front : (l : List ℕ) → 2 + lengthAt l ≤ length l → frontOf l ≡ Front.Entry (lengthAt l)
+pub whole-front : (l : List ℕ) → 2 + lengthAt l ≤ length l → frontOf l ≡ Front.Entry (lengthAt l)
 unfolding frontOf
 whole-front l h = rw (le-leb 2 (length l) (omega (arith, h)), le-leb _ _ h)
 

@@ -1,3 +1,4 @@
 pub mod Moving
 pub mod Handing
+pub mod Ending
 pub mod Unique

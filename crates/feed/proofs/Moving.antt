@@ -65,7 +65,7 @@ before-tail d l kept h = take-at (take kept d) _ kept (length-take-le kept d h)
 abbrev nothing : Window
 nothing = record { at = 0; end = 0 }
 
-is-inside : (n : ℕ) (w : Window) → Inside n w → isInside n w ≡ true
+pub is-inside : (n : ℕ) (w : Window) → Inside n w → isInside n w ≡ true
 is-inside n w h = rw (le-leb _ _ (h .order), le-leb _ _ (h .inside))
 
 -- a window that ends before it begins, or behind the space, is not the space's

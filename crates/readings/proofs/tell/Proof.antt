@@ -3,6 +3,7 @@
 use native.Mathlib.Omega.{arith}
 use Rattle.lines.proofs.Adding.{added-then}
 use Rattle.turns.proofs.Laws.{line-told}
+use Rattle.readings.specs.Line.{backText}
 use Rattle.readings.proofs.Laws.{records-inside, line-short}
 use borrow.Author.Needs.{needs}
 use Rattle.readings.proofs.tell.Statement.{statement}
@@ -33,11 +34,12 @@ returns c =
     let a = b .before .before .before .before .before in
     let r = a .before .before .before .before in
     let s = r .before .before .before .before .before in
+    let t = backText (s .args .strictly) (s .args .message .now) (r .read .result) (r .read .last .1 .0) in
     let n = line-short (s .args .strictly) (s .args .message .now) (r .read .result) (r .read .last .1 .0) in
     record {
       answer = r .read .result;
       read = r .read .ensures;
-      line = line-told _ _ _ _ _ _ _ (added-then (a .add-answer .ensures) (b .add-back .ensures)) (omega (arith, s .pre, n)) (e .end-line .ensures);
+      line = line-told _ _ _ _ _ _ _ (added-then {ts = t} (a .add-answer .ensures) (b .add-back .ensures)) (omega (arith, s .pre, n)) (e .end-line .ensures);
     }
 
 pub tell-spec : {M : Type 1} → statement M

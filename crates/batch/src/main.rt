@@ -123,8 +123,11 @@ fn take_entry(
     }
 }
 
+// The space holds the longest entry, which has 65,535 bytes behind two of length, and the page the longest line.
 // A proved loop has to end, and nothing says that an input does: it stops at a number that no run reaches.
-fn run(space: &mut [u8], page: &mut [u8], answers: &mut [u32], output: &mut [u8]) {
+fn run(space: &mut [u8], page: &mut [u8], answers: &mut [u32], output: &mut [u8])
+    requires { ⌜ (65537 ≤ length (now space)) × (98474 ≤ length (now page)) ⌝ }
+{
     let mut receiver = receiver::fresh();
     let mut stand = turns::begin();
     while stand.number < 0xFFFF_FFFF_FFFF_FFFF {

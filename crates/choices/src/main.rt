@@ -248,8 +248,11 @@ fn take_entry(
     }
 }
 
+// The space holds the longest entry, which has 65,535 bytes behind two of length, and the page the longest line.
 // A proved loop has to end, and nothing says that an input does: it stops at a number that no run reaches.
-fn run(space: &mut [u8], page: &mut [u8], choices: &mut [u32]) {
+fn run(space: &mut [u8], page: &mut [u8], choices: &mut [u32])
+    requires { ⌜ (65537 ≤ length (now space)) × (65536 ≤ length (now page)) ⌝ }
+{
     let mut screen = empty();
     let mut stand = turns::begin();
     while stand.number < 0xFFFF_FFFF_FFFF_FFFF {

@@ -12,7 +12,7 @@ use Rattle.paper.specs.Refusals.{none}
 use Rattle.paper.specs.declared.Milliseconds.{Milliseconds}
 use Rattle.slices.specs.Writing.{Draft, bytes, refuse, given, answered, bytesOf, left, Writes}
 use Rattle.slices.specs.declared.Written.{Written}
-use Rattle.slices.proofs.Laws.{front-left}
+use Rattle.slices.proofs.Laws.{given-few, front-left}
 use Rattle.house.specs.Fields.{recordBytes}
 use Rattle.messages.specs.Header.{mostBytes}
 use Rattle.reading.specs.Plain as plain
@@ -24,7 +24,7 @@ use Rattle.readings.specs.Line.{answerText, backDraft, sameAs, outcomeTe
 
 -- ---- the same bytes
 
-not-true : false ≡ true → ⊥
+pub not-true : false ≡ true → ⊥
 not-true e = let z : _≡_ {A = ℕ} 0 1 = ap (λ (b : Bool). cond b 1 0) e in omega arith
 
 same-only : (l m : List ℕ) → sameAs l m ≡ true → l ≡ m
@@ -32,11 +32,11 @@ unfolding sameAs
 same-only [] [] e = refl
 same-only [] (y ∷ m) e = absurd (not-true e)
 same-only (x ∷ l) [] e = absurd (not-true e)
-same-only (x ∷ l) (y ∷ m) e = go (eqb x y) refl e
+same-only (x ∷ l) (y ∷ m) e = go (eqb x y) refl (λ k. same-only l m k) e
   where
-    go : (b : Bool) → eqb x y ≡ b → cond b (sameAs l m) false ≡ true → x ∷ l ≡ y ∷ m
-    go true q k = λ i. eqb-true x y q i ∷ same-only l m k i
-    go false q k = absurd (not-true k)
+    go : (b : Bool) → eqb x y ≡ b → (sameAs l m ≡ true → l ≡ m) → cond b (sameAs l m) false ≡ true → x ∷ l ≡ y ∷ m
+    go true q r k = λ i. eqb-true x y q i ∷ r k i
+    go false q r k = absurd (not-true k)
 
 same-self : (l : List ℕ) → sameAs l l ≡ true
 unfolding sameAs
@@ -63,6 +63,9 @@ records-inside strictly l a before after h =
     rw (h .answer, h .output) (fits-left (plain.timeOf (plain.readBy strictly l)) (given (length before) (plain.draftOf (plain.readBy strictly l))) before)
 
 -- ---- what writing it back gives
+
+pub written-few : (d : Draft) (w : Written) (before after : List ℕ) → Writes d w before after → w .bytes ≤ length before
+written-few d w before after h = rw (h .answer) (given-few (length before) d)
 
 pub back-said : (strictly same : Bool) (l : List ℕ) (a : PlainAnswer) (output records : List ℕ) (w : Written) (before after : List ℕ) (at next : ℕ) (p q : List ℕ)
     → a .refusal ≡ none → Writes (touchDraft (a .time) records) w before after → records ≡ take (recordBytes * a .records) output → length before ≡ mostBytes

@@ -1,2 +1,3 @@
--- The line of a message.
-mod Laws
+-- The line of a message, and what a run promises.
+pub mod Laws
+pub mod Unique

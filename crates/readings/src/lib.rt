@@ -3,7 +3,6 @@
 use reading::PlainAnswer;
 use turns::Stand;
 use turns::Turn;
-ghost use mathlib.Core.Path.{_≡_};
 ghost use Prim.Native.Nat.{_+_, _*_, _≤_};
 ghost use lib.ListN.{length};
 ghost use Rattle.house.specs.Fields.{recordBytes};

@@ -7,6 +7,7 @@ use turns::Stand;
 use turns::Turn;
 ghost use Prim.Native.Nat.{_≤_};
 ghost use lib.ListN.{length};
+ghost use Rattle.feed.specs.Within.{entryMost};
 
 // What stands before a buffer: the room, four bytes, and the places, two.
 const HEAD: usize = 6;
@@ -126,7 +127,7 @@ fn take_entry(
 // The space holds the longest entry, which has 65,535 bytes behind two of length, and the page the longest line.
 // A proved loop has to end, and nothing says that an input does: it stops at a number that no run reaches.
 fn run(space: &mut [u8], page: &mut [u8], answers: &mut [u32], output: &mut [u8])
-    requires { ⌜ (65537 ≤ length (now space)) × (98474 ≤ length (now page)) ⌝ }
+    requires { ⌜ (entryMost ≤ length (now space)) × (98474 ≤ length (now page)) ⌝ }
 {
     let mut receiver = receiver::fresh();
     let mut stand = turns::begin();

@@ -5,6 +5,7 @@ use presses::Label;
 use turns::Turn;
 ghost use Prim.Native.Nat.{_*_, _≤_};
 ghost use lib.ListN.{length};
+ghost use Rattle.feed.specs.Within.{entryMost};
 
 // How many bytes a button has in an entry, and how many buttons a list has at most.
 const BUTTON_BYTES: usize = 21;
@@ -251,7 +252,7 @@ fn take_entry(
 // The space holds the longest entry, which has 65,535 bytes behind two of length, and the page the longest line.
 // A proved loop has to end, and nothing says that an input does: it stops at a number that no run reaches.
 fn run(space: &mut [u8], page: &mut [u8], choices: &mut [u32])
-    requires { ⌜ (65537 ≤ length (now space)) × (65536 ≤ length (now page)) ⌝ }
+    requires { ⌜ (entryMost ≤ length (now space)) × (65536 ≤ length (now page)) ⌝ }
 {
     let mut screen = empty();
     let mut stand = turns::begin();

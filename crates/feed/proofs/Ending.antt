@@ -16,18 +16,18 @@ use Rattle.entries.specs.declared.Front.{Front}
 use Rattle.entries.specs.declared.Front.the-variants as Front
 use Rattle.entries.proofs.Laws.{whole-front}
 use Rattle.feed.specs.declared.Window.{Window}
-use Rattle.feed.specs.Within.{Inside, bytesIn, FillsBy, Fills}
+use Rattle.feed.specs.Within.{entryMost, Inside, bytesIn, FillsBy, Fills}
 use Rattle.feed.proofs.Moving.{is-inside}
 
 never : {A : Type 0} {n : ℕ} → Front.Entry n ≡ Front.Part → A
 never e = absurd (let z : _≡_ {A = ℕ} 0 1 = cc in omega arith)
 
--- 65,537 bytes have a whole entry at their front: a length of two bytes says no more than 65,535
-long-whole : (l : List ℕ) → Bytes l → 65537 ≤ length l → frontOf l ≡ Front.Entry (lengthAt l)
+-- so many bytes have a whole entry at their front
+long-whole : (l : List ℕ) → Bytes l → entryMost ≤ length l → frontOf l ≡ Front.Entry (lengthAt l)
 long-whole l b h = whole-front l (omega (arith, b 0, b 1, h))
 
--- in a space of 65,537 bytes or more no entry is whole at the front of a window that was filled only where the space is not full: all that could be read was read
-pub no-entry-only-at-the-end : (w r : Window) (before after : List ℕ) → 65537 ≤ length before → Bytes after → Inside (length before) w → Fills w r before after
+-- in a space for the longest entry none is whole at the front of a window that was filled only where the space is not full: all that could be read was read
+pub no-entry-only-at-the-end : (w r : Window) (before after : List ℕ) → entryMost ≤ length before → Bytes after → Inside (length before) w → Fills w r before after
     → frontOf (bytesIn r after) ≡ Front.Part → r .end < length after
 no-entry-only-at-the-end w r before after h b i f e = go (frontOf (bytesIn w before)) refl (rw (is-inside (length before) w i) at (f .by))
   where

@@ -12,6 +12,10 @@ use Rattle.feed.specs.declared.Window.{Window}
 use Rattle.feed.specs.declared.Next.{Next}
 use Rattle.feed.specs.declared.Next.the-variants as Next
 
+-- the longest entry: two bytes of length, and the 65,535 that these can say
+abbrev pub entryMost : ℕ
+entryMost = 65537
+
 -- a window of a space of n bytes
 pub record Inside (n : ℕ) (w : Window) : Type 0 where
   pub order : w .at ≤ w .end

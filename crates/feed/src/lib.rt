@@ -6,7 +6,10 @@ ghost use lib.ListN.{length};
 ghost use Rattle.entries.specs.Entries.{frontOf};
 ghost use Rattle.feed.specs.Within.{Inside, bytesIn, Moves, ReadsOn, Fills, frontNext, HandsOut};
 
-// How much space every entry fits into: two bytes of length and 65,535 more, and as much again to read ahead.
+// The longest entry: two bytes of length, and the 65,535 that these can say. In less space it is never whole.
+pub const ENTRY_MOST: usize = 65537;
+
+// How much space programs have: that, and nearly as much again to read ahead.
 pub const SPACE: usize = 131072;
 
 // The bytes of the space that were read and not yet handed out.

@@ -10,6 +10,7 @@ ghost use Rattle.messages.specs.Header.{mostBytes};
 ghost use Rattle.lines.specs.Page.{Added};
 ghost use Rattle.turns.specs.Turns.{TellsLine};
 ghost use Rattle.panel.specs.Line.{lineMost, restMost, lineOf};
+ghost use Rattle.feed.specs.Within.{entryMost};
 
 // The longest line: the number, the refusal and the bytes, each of at most 20 digits, two of them after a space; a space and two digits for
 // each byte of a message; and the line's end.
@@ -39,7 +40,7 @@ fn tell(page: &mut [u8], line: Stand, obeyed: Obeyed, output: &[u8]) -> Stand
 // message and no more.
 // A proved loop has to end, and nothing says that an input does: it stops at a number that no run reaches.
 fn run(space: &mut [u8], page: &mut [u8], output: &mut [u8])
-    requires { ⌜ (65537 ≤ length (now space)) × (lineMost ≤ length (now page)) × (length (now output) ≡ mostBytes) ⌝ }
+    requires { ⌜ (entryMost ≤ length (now space)) × (lineMost ≤ length (now page)) × (length (now output) ≡ mostBytes) ⌝ }
 {
     let mut panel = panels::fresh();
     let mut stand = turns::begin();

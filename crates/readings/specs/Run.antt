@@ -5,12 +5,9 @@ use mathlib.Core.Bool.{Bool, false, cond}
 use mathlib.Core.List.{List}
 use lib.Dec.{leb}
 use lib.ListN.{length}
+use Rattle.feed.specs.Within.{entryMost}
 use Rattle.receiver.specs.Limits.{mostOutput}
 use Rattle.readings.specs.Line.{lineMost}
-
--- the longest entry: two bytes of length and 65,535 more
-abbrev pub entryMost : ℕ
-entryMost = 65537
 
 -- the space holds the longest entry, the page the longest line, and the output the records of any message
 pub record Enough (space page output : List ℕ) : Type 0 where

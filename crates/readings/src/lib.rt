@@ -10,9 +10,6 @@ ghost use Rattle.lines.specs.Page.{Added};
 ghost use Rattle.readings.specs.Line.{outcomeText, backText, answerText, restMost, Tells};
 ghost use Rattle.readings.specs.Run.{Enough, Keeps, Runs};
 
-// How much space the longest entry takes: two bytes of length and 65,535 more.
-const SPACE_LEAST: usize = 65537;
-
 // The longest line: the number of at most 20 digits; the refusal, encodeTime and the records, each a space and at most 20 digits;
 // ` becomes`, a space and at most 20 digits; and the line's end.
 const LINE_MOST: usize = 20 + 3 * 21 + 8 + 21 + 1;
@@ -95,7 +92,7 @@ fn print_lines(space: &mut [u8], page: &mut [u8], output: &mut [u8], strictly: b
 pub fn run(space: &mut [u8], page: &mut [u8], output: &mut [u8], strictly: bool) -> bool
     ensures { λ r. ⌜ Runs (now (space .entry)) (now (space .exit)) (now (page .entry)) (now (page .exit)) (now (output .entry)) (now (output .exit)) r ⌝ }
 {
-    if space.len() < SPACE_LEAST {
+    if space.len() < feed::ENTRY_MOST {
         return false;
     }
     if page.len() < LINE_MOST {

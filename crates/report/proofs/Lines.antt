@@ -10,31 +10,24 @@ use lib.ListN.{length, take, drop, getD, length-append}
 use lib.Seq.{drop-drop}
 use borrow.Author.Tests.{le-leb, leb-true, lt-ltb, le-ltb}
 use Rattle.slices.proofs.Tails.{tail-is}
+use Rattle.feed.specs.Within.{entryMost}
 use Rattle.feed.specs.declared.Window.{Window}
 use Rattle.intake.specs.Feeding.{answerNumbers}
 use Rattle.lines.specs.Page.{textOf, Added, turnedTo, Prints, decimal, cutWord}
 use Rattle.lines.proofs.Adding.{text-append}
 use Rattle.lines.proofs.Decimal.{digits-few}
-use Rattle.lines.proofs.Printing.{turned-has-room, turned-prints, added-prints, prints-then}
+use Rattle.lines.proofs.Printing.{prints-none, prints-then, turned-adds}
 use Rattle.receiver.specs.Limits.{mostOutput}
-use Rattle.report.specs.Report.{lineOf, linesOf, lastOf, lineMost, entryMost, suffices, Enough, PrintsFile}
+use Rattle.report.specs.Report.{lineOf, linesOf, lastOf, lineMost, suffices, Enough, PrintsFile}
 
 -- ---- one line
 
--- texts that are no longer than a line are printed whole
-lines-fit : (ss : List (List ℕ)) (place at next : ℕ) (before after : List ℕ) → length (textOf ss) ≤ lineMost → lineMost ≤ length before → place ≤ length before
-    → at ≡ turnedTo lineMost place before → Added ss at next before after → Prints (textOf ss) place next before after
-lines-fit ss place at next before after k h i e a =
-    let r = turned-has-room lineMost place before h in
-    let b : Added ss (turnedTo lineMost place before) next before after = rw (sym e) a in
-    prints-then (turned-prints lineMost place before i) (added-prints ss (turnedTo lineMost place before) next before after (omega (arith, k, r)) b)
-
 pub line-printed : (number : ℕ) (a : List ℕ) (place at next : ℕ) (before after : List ℕ) → lineMost ≤ length before → place ≤ length before
     → at ≡ turnedTo lineMost place before → Added (lineOf number a) at next before after → Prints (textOf (lineOf number a)) place next before after
-line-printed number a place at next before after =
+line-printed number a place at next before after h i t =
     let d : (n : ℕ) → length (decimal n) ≤ 20 = digits-few 19 in
     let k : length (textOf (lineOf number a)) ≤ lineMost = simp length-append (omega (arith, d number, d (getD a 0 0), d (getD a 1 0), d (getD a 2 0), d (getD a 3 0), d (getD a 5 0))) in
-    lines-fit (lineOf number a) place at next before after k
+    turned-adds (lineOf number a) lineMost place at next before after t i h k
 
 -- ---- one after the other
 
@@ -49,7 +42,7 @@ pub record Underway (first entries : ℕ) (answers page₀ page : List ℕ) (pla
 pub underway-first : (first entries : ℕ) (answers page : List ℕ) (place : ℕ) → answerNumbers * entries ≤ length answers → place ≤ length page
     → Underway first entries answers page page place place 0 first entries
 underway-first first entries answers page place h i =
-    record { list = omega arith; count = refl; done = []; printed = record { printed = []; all = sym (append-nil (take place page)); inside = i; long = refl }; rest = refl }
+    record { list = omega arith; count = refl; done = []; printed = prints-none place page i; rest = refl }
 
 pub underway-next : (first entries : ℕ) (answers page₀ page : List ℕ) (place at from number left : ℕ) → Underway first entries answers page₀ page place at from number left → 0 < left
     → (next : ℕ) (after : List ℕ) → Prints (textOf (lineOf number (take (length answers - from) (drop from answers)))) at next page after
@@ -87,10 +80,10 @@ pub cut-printed : (w : Window) (number place at next : ℕ) (before after : List
     → at ≡ turnedTo lineMost place before → Added (decimal number ∷ cutWord ∷ []) at next before after → Prints (textOf (lastOf w number)) place next before after
 cut-printed w number place at next before after c h i e a =
     let k : length (textOf (decimal number ∷ cutWord ∷ [])) ≤ lineMost = simp length-append (omega (arith, digits-few 19 number)) in
-    rw (lt-ltb _ _ c) (lines-fit (decimal number ∷ cutWord ∷ []) place at next before after k h i e a)
+    rw (lt-ltb _ _ c) (turned-adds (decimal number ∷ cutWord ∷ []) lineMost place at next before after e i h k a)
 
 pub none-printed : (w : Window) (number place : ℕ) (page : List ℕ) → w .end ≤ w .at → place ≤ length page → Prints (textOf (lastOf w number)) place place page page
-none-printed w number place page c i = rw (le-ltb _ _ c) (record { printed = []; all = sym (append-nil (take place page)); inside = i; long = refl })
+none-printed w number place page c i = rw (le-ltb _ _ c) (prints-none place page i)
 
 -- ---- what is lent
 

@@ -5,6 +5,7 @@ use mathlib.Core.Bool.{Bool, true, false, cond}
 use mathlib.Core.List.{List, [], _∷_, _++_}
 use lib.Dec.{leb, ltb}
 use lib.ListN.{length, getD, drop}
+use Rattle.feed.specs.Within.{entryMost}
 use Rattle.feed.specs.declared.Window.{Window}
 use Rattle.intake.specs.Feeding.{answerNumbers}
 use Rattle.lines.specs.Page.{decimal, space, lineEnd, cutWord}
@@ -35,10 +36,6 @@ lastOf w number = cond (ltb (w .at) (w .end)) (decimal number ∷ cutWord ∷ []
 -- no line is longer: six numbers of at most 20 digits, what stands between them, and the line's end
 abbrev pub lineMost : ℕ
 lineMost = 126
-
--- the longest entry: 65,535 bytes behind two of length
-abbrev pub entryMost : ℕ
-entryMost = 65537
 
 -- what is lent has room for any entry, for an answer, for what any message writes, and for any line
 abbrev pub suffices : ℕ → ℕ → ℕ → ℕ → Bool

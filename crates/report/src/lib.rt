@@ -10,9 +10,7 @@ ghost use Rattle.report.specs.Report.{lineOf, linesOf, lastOf, lineMost,
 // A proved loop has to end, and nothing says that an input does: it stops at a number that no run reaches.
 const LAST: u64 = 0x4000_0000_0000_0000;
 
-// The longest entry has 65,535 bytes behind two of length, and the longest line six numbers.
-const ENTRY_MOST: usize = 65537;
-
+// The longest line: six numbers, what stands between them, and the line's end.
 const LINE_MOST: usize = 126;
 
 // Adds the line of an entry: its number, the refusal, the frames injected, ignored and cancelled, and the records.
@@ -72,7 +70,7 @@ fn print_last(page: &mut [u8], place: usize, window: Window, number: u64) -> usi
 fn suffice(space: usize, answers: usize, output: usize, page: usize) -> bool
     ensures { λ r. ⌜ r ≡ suffices space answers output page ⌝ }
 {
-    if space < ENTRY_MOST {
+    if space < feed::ENTRY_MOST {
         return false;
     }
     if answers < intake::ANSWER_NUMBERS {

@@ -10,7 +10,7 @@ use Rattle.digits.specs.Digits.{Bytes}
 use Rattle.entries.specs.Entries.{frontOf}
 use Rattle.entries.specs.declared.Front.{Front}
 use Rattle.entries.specs.declared.Front.the-variants as Front
-use Rattle.feed.specs.Within.{Inside, bytesIn}
+use Rattle.feed.specs.Within.{entryMost, Inside, bytesIn}
 use Rattle.feed.proofs.Ending.{no-entry-only-at-the-end}
 use Rattle.intake.specs.Feeding.{answerNumbers, fedFrom}
 use Rattle.receiver.specs.Limits.{mostOutput}
@@ -32,7 +32,7 @@ fed-first : (least n : ℕ) (r : Receiver) (file : List ℕ) (room : ℕ) → an
 fed-first least n r file room h = let e : n / answerNumbers ≡ suc (n / answerNumbers - 1) = omega (arith, h) in ap (λ (k : ℕ). fedFrom least k r file room) e
 
 -- a round in which nothing is fed, where there is room for all that it may need, has read all that could be read
-pub a-run-ends-only-where-its-input-does : (b r : Round) (s₀ s a₀ a o₀ o : List ℕ) (x : GoesOn b r s₀ s a₀ a o₀ o) → 65537 ≤ length s₀ → answerNumbers ≤ length a₀ → mostOutput ≤ length o₀ → Bytes s
+pub a-run-ends-only-where-its-input-does : (b r : Round) (s₀ s a₀ a o₀ o : List ℕ) (x : GoesOn b r s₀ s a₀ a o₀ o) → entryMost ≤ length s₀ → answerNumbers ≤ length a₀ → mostOutput ≤ length o₀ → Bytes s
     → Inside (length s₀) (b .window) → r .entries ≡ 0 → (frontOf (bytesIn (x .filled) s) ≡ Front.Part) × (x .filled .end < length s)
 a-run-ends-only-where-its-input-does b r s₀ s a₀ a o₀ o x h k l y i e =
     let file = bytesIn (x .filled) s in

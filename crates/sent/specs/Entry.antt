@@ -5,9 +5,9 @@ use mathlib.Core.List.{List, [], _∷_}
 use lib.Dec.{eqb}
 use lib.ListN.{take}
 
--- the longest entry of a message
-abbrev pub entryMost : ℕ
-entryMost = 4098
+-- the longest that is written: of the longest message
+abbrev pub writtenMost : ℕ
+writtenMost = 4098
 
 -- the entry of the first n bytes; none of no bytes
 unfoldable pub entryOf : ℕ → List ℕ → List ℕ

@@ -10,6 +10,7 @@ use feed::Next;
 use feed::Window;
 ghost use Prim.Native.Nat.{_≤_};
 ghost use lib.ListN.{length};
+ghost use Rattle.feed.specs.Within.{entryMost};
 
 // What one vector prints after its number.
 fn run_vector(vector: &[u8]) {
@@ -50,7 +51,7 @@ fn turn(space: &mut [u8], window: Window, number: u64) -> Next {
 // The space holds the longest entry, which has 65,535 bytes behind two of length.
 // A proved loop has to end, and nothing says that an input does: it stops at a number that no run reaches.
 fn run(space: &mut [u8])
-    requires { ⌜ 65537 ≤ length (now space) ⌝ }
+    requires { ⌜ entryMost ≤ length (now space) ⌝ }
 {
     let mut window = feed::opened();
     let mut number: u64 = 1;

@@ -8,6 +8,7 @@ ghost use lib.ListN.{length};
 ghost use Rattle.lines.specs.Page.{Added};
 ghost use Rattle.turns.specs.Turns.{TellsLine};
 ghost use Rattle.writer.specs.Line.{lineMost, restMost, lineOf};
+ghost use Rattle.feed.specs.Within.{entryMost};
 
 // The longest line: the number, the refusal and the bytes, each of at most 20 digits, two of them after a space; a space and two digits for
 // each byte of a message; and the line's end.
@@ -38,7 +39,7 @@ fn tell(page: &mut [u8], line: Stand, entry: &[u8]) -> Stand
 // The space holds the longest entry, which has 65,535 bytes behind two of length, and the page the longest line.
 // A proved loop has to end, and nothing says that an input does: it stops at a number that no run reaches.
 fn run(space: &mut [u8], page: &mut [u8])
-    requires { ⌜ (65537 ≤ length (now space)) × (lineMost ≤ length (now page)) ⌝ }
+    requires { ⌜ (entryMost ≤ length (now space)) × (lineMost ≤ length (now page)) ⌝ }
 {
     let mut stand = turns::begin();
     while stand.number < 0xFFFF_FFFF_FFFF_FFFF {

@@ -1,8 +1,6 @@
 -- `report::suffice` meets its contract.
 -- Assumes nothing.
-use borrow.Author.Needs.{needs}
 use borrow.Author.Tests.{le-leb, lt-leb}
-use mathlib.Core.Path.{refl}
 use Rattle.report.proofs.suffice.Statement.{statement}
 use Rattle.report.proofs.suffice.Tie as tie
 

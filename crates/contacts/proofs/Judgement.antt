@@ -17,7 +17,7 @@ use Rattle.machine.specs.Rules.{Rules}
 use Rattle.machine.specs.Conforms.{every, distinct, tableAfter, conforms}
 use Rattle.machine.specs.Machine.{Verdict, injected, ignored, cancelled, verdictBy}
 use Rattle.contacts.specs.Touch.{touchView, touchRules}
-use Rattle.contacts.specs.Ruling.{ofRead, tableFrom, legalIn, staysIn, allowedIn, came, gone, unlawful, surveyed, CountsActive, Counted, judgedAs, refused, judgedOf, rulingAs, rulingOf, unread, settled, judgedFrom, rulingBy}
+use Rattle.contacts.specs.Ruling.{ofRead, tableFrom, legalIn, staysIn, allowedIn, came, gone, unlawful, surveyed, CountsActive, Counted, judgedAs, refused, judgedOf, rulingAs, rulingOf, unread, judgedOn, judgedFrom, rulingBy}
 use Rattle.contacts.specs.declared.Survey.{Survey}
 use Rattle.contacts.specs.declared.Judged.{Judged}
 use Rattle.contacts.specs.declared.Ruling.{Ruling}
@@ -46,10 +46,10 @@ nest false l s p f h = refl
 
 module _ (most : ℕ) (states : List ℕ) (xs ys : List ℤ) where
   -- of what one pass over them finds
-  pub settled-read : (k : ℕ) (x : Got (List Contact)) (v : Survey) → v ≡ ofRead unlawful (surveyed states xs ys) x → settled most k v ≡ judgedFrom most k (tableFrom states xs ys) x
-  unfolding settled
-  settled-read k (got cs t) v e = rw e
-  settled-read k (bad y) v e = rw e
+  pub judged-on-read : (k : ℕ) (x : Got (List Contact)) (v : Survey) → v ≡ ofRead unlawful (surveyed states xs ys) x → judgedOn most k v ≡ judgedFrom most k (tableFrom states xs ys) x
+  unfolding judgedOn
+  judged-on-read k (got cs t) v e = rw e
+  judged-on-read k (bad y) v e = rw e
 
   -- the two rules of single contacts, each by itself
   allowed : (cs : List Contact) → every (allowedIn states xs ys) cs ≡ cond (every (legalIn states) cs) (every (staysIn xs ys) cs) false
@@ -76,12 +76,12 @@ module _ (most : ℕ) (states : List ℕ) (xs ys : List ℤ) where
     -- a judgement is what the rules say, where the number of active contacts is the table's
     pub judged-as-the-rules-say : (x : Got (List Contact)) → ofRead true (every (inTable touchView)) x ≡ true
         → judgedFrom most k (tableFrom states xs ys) x ≡ ofRead refused (judgedOf (touchRules most) (tableFrom states xs ys)) x
-    unfolding judgedOf settled surveyed
+    unfolding judgedOf judgedOn surveyed
     judged-as-the-rules-say (bad y) i = refl
     judged-as-the-rules-say (got cs t) i = rw (conforming cs) (go (cond (distinct touchView cs) (every (allowedIn states xs ys) cs) false) refl)
       where
         go : (b : Bool) → cond (distinct touchView cs) (every (allowedIn states xs ys) cs) false ≡ b
-            → settled most k (cond b (record { lawful = true; came = came next states cs; gone = gone states cs }) unlawful)
+            → judgedOn most k (cond b (record { lawful = true; came = came next states cs; gone = gone states cs }) unlawful)
             ≡ cond (cond b (leb (after cs) most) false) (record { conforms = true; active = after cs }) refused
         go true w = lawful-count cs (both-left (distinct touchView cs) _ w) i
         go false w = refl

@@ -116,12 +116,12 @@ unread judged = cond judged Ruling.Cancelled Ruling.Ignored
 -- ---- the promises, of contacts that are read as x; the number of active contacts is the one that is given, whether it is the table's or not
 
 -- of what one pass found: nothing more is asked of a frame that breaks a rule, nor where more contacts would go than there are
-unfoldable pub settled : ℕ → ℕ → Survey → Judged
-settled most active v = cond (v .lawful) (cond (leb (v .gone) (active + v .came)) (judgedAs most (active + v .came - v .gone)) refused) refused
+unfoldable pub judgedOn : ℕ → ℕ → Survey → Judged
+judgedOn most active v = cond (v .lawful) (cond (leb (v .gone) (active + v .came)) (judgedAs most (active + v .came - v .gone)) refused) refused
 
 -- .. of the contacts themselves
 abbrev pub judgedFrom : ℕ → ℕ → Table → Got (List Contact) → Judged
-judgedFrom most active t x = ofRead refused (λ cs. settled most active (surveyed (t .states) (t .xs) (t .ys) cs)) x
+judgedFrom most active t x = ofRead refused (λ cs. judgedOn most active (surveyed (t .states) (t .xs) (t .ys) cs)) x
 
 -- what becomes of a frame, which is judged or is not
 abbrev pub rulingBy : Bool → Judged → Ruling

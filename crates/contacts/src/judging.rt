@@ -4,11 +4,11 @@ use crate::Ruling;
 use crate::Survey;
 use crate::scan::survey;
 ghost use mathlib.Core.Path.{_≡_};
-ghost use Rattle.contacts.specs.Ruling.{source, contactsBy, contactsOf, tableFrom, settled, judgedFrom, rulingBy};
+ghost use Rattle.contacts.specs.Ruling.{source, contactsBy, contactsOf, tableFrom, judgedOn, judgedFrom, rulingBy};
 
 // What is found of a frame decides, and then the count: at most so many contacts are active after it.
 fn settle(found: Survey, active: u16, most: u16) -> Judged
-    ensures { λ r. ⌜ r ≡ settled most active found ⌝ }
+    ensures { λ r. ⌜ r ≡ judgedOn most active found ⌝ }
 {
     let came = active as u32 + found.came as u32;
     let gone = found.gone as u32;

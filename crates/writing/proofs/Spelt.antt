@@ -27,7 +27,8 @@ use Rattle.house.specs.Layout.{contactsMost}
 use Rattle.touch.specs.Touch.{contact, frame, touch, touchRecord}
 use Rattle.recordings.specs.Records.{contactRecord, frameRecords, framesIn}
 use Rattle.writing.specs.TouchDraft.{messageOf}
-use Rattle.writing.specs.Spelling.{spelling, Spells, spelt, Spelt, bodyOf}
+use Rattle.spelling.specs.Spelling.{spelling}
+use Rattle.writing.specs.Spelling.{Spells, spelt, Spelt, bodyOf}
 use Rattle.recordings.proofs.Records.{frames-read}
 use Rattle.writing.proofs.Held.{contact-writes, head-writes}
 

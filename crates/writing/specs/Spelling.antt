@@ -1,4 +1,4 @@
--- Records as the fields of a message: one record after the other.
+-- Records as the fields of a message, one record after the other.
 use Prim.Native.Nat.{ℕ, zero, suc, _≤_}
 use mathlib.Core.Bool.{false}
 use mathlib.Core.List.{List, [], _++_}
@@ -10,13 +10,9 @@ use Rattle.house.specs.declared.Record.{Record}
 use Rattle.house.specs.declared.Record.the-variants as Record
 use Rattle.paper.specs.declared.Milliseconds.{Milliseconds}
 use Rattle.touch.specs.Touch.{contact, frameHead, touchHead}
+use Rattle.spelling.specs.Spelling.{spelling}
 
--- a head is what stands before a frame's contacts
-abbrev pub spelling : Record → List ℕ
-spelling (Record.Head h) = frameHead taken false .write h
-spelling (Record.Contact kind c) = contact taken .write c
-spelling (Record.Refused e) = []
-
+-- a record that can stand in a message
 abbrev pub Spells : Record → Type 0
 Spells (Record.Head h) = frameHead taken false .Holds h
 Spells (Record.Contact kind c) = contact taken .Holds c

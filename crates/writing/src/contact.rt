@@ -16,14 +16,10 @@ use crate::parts::write_point;
 use crate::parts::write_sides;
 use house::Contact;
 use house::Point;
+use spelling::ORIENTATION;
+use spelling::PRESSURE;
+use spelling::SIDES;
 use well_formed::has_field;
-
-// The bits of fieldsPresent.
-pub(crate) const SIDES: u16 = 1;
-
-pub(crate) const ORIENTATION: u16 = 2;
-
-pub(crate) const PRESSURE: u16 = 4;
 
 // Orientation and pressure, each where fieldsPresent says that it is there.
 fn write_numbers(out: &mut [u8], present: u8, turn: u16, press: u16) -> usize

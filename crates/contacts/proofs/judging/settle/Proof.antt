@@ -2,7 +2,7 @@
 -- Assumes nothing.
 use borrow.Author.Needs.{needs}
 use borrow.Author.Tests.{le-leb, lt-leb}
-use Rattle.contacts.specs.Ruling.{settled}
+use Rattle.contacts.specs.Ruling.{judgedOn}
 use Rattle.contacts.proofs.judging.settle.Statement.{statement}
 use Rattle.contacts.proofs.judging.settle.Tie as tie
 
@@ -19,19 +19,19 @@ cast-t13 : tie.Need-cast-t13
 cast-t13 c = search needs
 
 returns : tie.Need-returns
-unfolding settled
+unfolding judgedOn
 returns c = rw (c .before .before .if1 .taken, le-leb _ _ (c .before .if2 .taken), le-leb _ _ (c .if3 .taken))
 
 returns-2 : tie.Need-returns-2
-unfolding settled
+unfolding judgedOn
 returns-2 c = rw (c .before .before .if1 .taken, le-leb _ _ (c .before .if2 .taken), lt-leb _ _ (c .if3 .left))
 
 returns-3 : tie.Need-returns-3
-unfolding settled
+unfolding judgedOn
 returns-3 c = rw (c .before .if1 .taken, lt-leb _ _ (c .if2 .left))
 
 returns-4 : tie.Need-returns-4
-unfolding settled
+unfolding judgedOn
 returns-4 c = rw (c .if1 .left)
 
 pub settle-spec : {M : Type 1} → statement M

@@ -7,7 +7,8 @@ use Rattle.fields.specs.Integers.{taken}
 use Rattle.touch.specs.Touch.{touchHead}
 use Rattle.writing.specs.Spelling.{spelt}
 use Rattle.writing.specs.Limits.{mostSpelt}
-use Rattle.writing.proofs.Measured.{spelt-most, touch-head-sized}
+use Rattle.spelling.proofs.Measured.{touch-head-sized}
+use Rattle.writing.proofs.Measured.{spelt-most}
 use borrow.Author.Needs.{needs}
 use Rattle.writing.proofs.lengths.message_bytes.Statement.{statement}
 use Rattle.writing.proofs.lengths.message_bytes.Tie as tie

@@ -6,7 +6,8 @@ use native.Mathlib.Omega.{arith}
 use lib.ListN.{length, drop, length-append}
 use Rattle.formats.proofs.Steps.{tail}
 use Rattle.house.specs.Layout.{recordOf}
-use Rattle.writing.specs.Spelling.{spelling, spelt, Spelt}
+use Rattle.spelling.specs.Spelling.{spelling}
+use Rattle.writing.specs.Spelling.{spelt, Spelt}
 use Rattle.writing.proofs.Measured.{spelt-most}
 use Rattle.writing.proofs.Spelt.{spelt-none, Next, next}
 use borrow.Author.Needs.{needs}

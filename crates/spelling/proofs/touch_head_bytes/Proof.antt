@@ -1,10 +1,10 @@
--- `writing::lengths::touch_head_bytes` meets its contract: the bytes of encodeTime and of the count of frames.
+-- `spelling::touch_head_bytes` meets its contract: the bytes of encodeTime and of the count of frames.
 -- Assumes nothing.
 use native.Mathlib.Omega.{arith}
-use Rattle.writing.proofs.Measured.{touch-head-sized}
+use Rattle.spelling.proofs.Measured.{touch-head-sized}
 use borrow.Author.Needs.{needs}
-use Rattle.writing.proofs.lengths.touch_head_bytes.Statement.{statement}
-use Rattle.writing.proofs.lengths.touch_head_bytes.Tie as tie
+use Rattle.spelling.proofs.touch_head_bytes.Statement.{statement}
+use Rattle.spelling.proofs.touch_head_bytes.Tie as tie
 
 u4-bytes-requires : tie.Need-u4-bytes-requires
 u4-bytes-requires c κs = search needs

@@ -1,4 +1,4 @@
--- `writing::lengths::point_bytes` meets its contract: x's bytes and y's.
+-- `spelling::point_bytes` meets its contract: x's bytes and y's.
 -- Assumes nothing.
 use mathlib.Core.Path.{_≡_}
 use native.Mathlib.Omega.{arith}
@@ -7,10 +7,10 @@ use mir.Val.{SFits}
 use mir.Facts.{toZ-ofZ}
 use lib.ListN.{length}
 use Rattle.fields.specs.Integers.{taken}
-use Rattle.writing.proofs.Measured.{point-sized}
+use Rattle.spelling.proofs.Measured.{point-sized}
 use borrow.Author.Needs.{needs}
-use Rattle.writing.proofs.lengths.point_bytes.Statement.{statement}
-use Rattle.writing.proofs.lengths.point_bytes.Tie as tie
+use Rattle.spelling.proofs.point_bytes.Statement.{statement}
+use Rattle.spelling.proofs.point_bytes.Tie as tie
 
 abbrev start : tie.After-s4-bytes2 → tie.Start
 start c = c .before .before .before .before

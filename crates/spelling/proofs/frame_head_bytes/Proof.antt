@@ -1,10 +1,10 @@
--- `writing::lengths::frame_head_bytes` meets its contract: the count's bytes and the offset's.
+-- `spelling::frame_head_bytes` meets its contract: the count's bytes and the offset's.
 -- Assumes nothing.
 use native.Mathlib.Omega.{arith}
-use Rattle.writing.proofs.Measured.{head-sized}
+use Rattle.spelling.proofs.Measured.{head-sized}
 use borrow.Author.Needs.{needs}
-use Rattle.writing.proofs.lengths.frame_head_bytes.Statement.{statement}
-use Rattle.writing.proofs.lengths.frame_head_bytes.Tie as tie
+use Rattle.spelling.proofs.frame_head_bytes.Statement.{statement}
+use Rattle.spelling.proofs.frame_head_bytes.Tie as tie
 
 u2-bytes-requires : tie.Need-u2-bytes-requires
 u2-bytes-requires c κs = search needs

@@ -1,4 +1,4 @@
--- `writing::lengths::sides_bytes` meets its contract: the bytes of the four sides, or none.
+-- `spelling::sides_bytes` meets its contract: the bytes of the four sides, or none.
 -- Assumes nothing.
 use mathlib.Core.Path.{_≡_}
 use native.Mathlib.Omega.{arith}
@@ -8,10 +8,10 @@ use mir.Facts.{toZ-ofZ}
 use lib.ListN.{length}
 use Rattle.fields.specs.Integers.{taken}
 use Rattle.house.specs.declared.Sides.{Sides}
-use Rattle.writing.proofs.Measured.{s2-most, sides-sized}
+use Rattle.spelling.proofs.Measured.{s2-most, sides-sized}
 use borrow.Author.Needs.{needs}
-use Rattle.writing.proofs.lengths.sides_bytes.Statement.{statement}
-use Rattle.writing.proofs.lengths.sides_bytes.Tie as tie
+use Rattle.spelling.proofs.sides_bytes.Statement.{statement}
+use Rattle.spelling.proofs.sides_bytes.Tie as tie
 
 abbrev told : tie.After-s2-bytes4 → tie.After-struct-told
 told c = c .before .before .before .before .before .before .before

@@ -1,9 +1,9 @@
--- `writing::lengths::record_bytes` meets its contract: the bytes of the record that stands there.
+-- `spelling::record_bytes` meets its contract: the bytes of the record that stands there.
 -- Assumes nothing.
 use mathlib.Core.Path.{sym, _∙_}
 use borrow.Author.Needs.{needs}
-use Rattle.writing.proofs.lengths.record_bytes.Statement.{statement}
-use Rattle.writing.proofs.lengths.record_bytes.Tie as tie
+use Rattle.spelling.proofs.record_bytes.Statement.{statement}
+use Rattle.spelling.proofs.record_bytes.Tie as tie
 
 read-record-requires : tie.Need-read-record-requires
 read-record-requires c κs = search needs

@@ -1,4 +1,4 @@
--- `writing::lengths::optional_bytes` meets its contract: the bytes of the sides, of orientation and of pressure, each where it is there.
+-- `spelling::optional_bytes` meets its contract: the bytes of the sides, of orientation and of pressure, each where it is there.
 -- Assumes nothing.
 use mathlib.Core.Path.{_≡_}
 use mathlib.Core.Bool.{cond}
@@ -9,10 +9,10 @@ use Rattle.fields.specs.Integers.{taken}
 use Rattle.house.specs.declared.Contact.{Contact}
 use Rattle.well_formed.specs.WellFormed.{has}
 use Rattle.touch.specs.Touch.{sides}
-use Rattle.writing.proofs.Measured.{optional-sized}
+use Rattle.spelling.proofs.Measured.{optional-sized}
 use borrow.Author.Needs.{needs}
-use Rattle.writing.proofs.lengths.optional_bytes.Statement.{statement}
-use Rattle.writing.proofs.lengths.optional_bytes.Tie as tie
+use Rattle.spelling.proofs.optional_bytes.Statement.{statement}
+use Rattle.spelling.proofs.optional_bytes.Tie as tie
 
 abbrev touch : tie.After-has-field → Contact
 touch c = c .before .before .args .touch

@@ -1,8 +1,8 @@
--- `writing::lengths::number_bytes` meets its contract: the number's bytes, or none.
+-- `spelling::number_bytes` meets its contract: the number's bytes, or none.
 -- Assumes nothing.
 use borrow.Author.Needs.{needs}
-use Rattle.writing.proofs.lengths.number_bytes.Statement.{statement}
-use Rattle.writing.proofs.lengths.number_bytes.Tie as tie
+use Rattle.spelling.proofs.number_bytes.Statement.{statement}
+use Rattle.spelling.proofs.number_bytes.Tie as tie
 
 u4-bytes-requires : tie.Need-u4-bytes-requires
 u4-bytes-requires c κs = search needs

@@ -1,10 +1,10 @@
--- `writing::lengths::contact_bytes` meets its contract: the bytes of its fields.
+-- `spelling::contact_bytes` meets its contract: the bytes of its fields.
 -- Assumes nothing.
 use native.Mathlib.Omega.{arith}
-use Rattle.writing.proofs.Measured.{u2-most, u4-most, point-sized, contact-sized}
+use Rattle.spelling.proofs.Measured.{u2-most, u4-most, point-sized, contact-sized}
 use borrow.Author.Needs.{needs}
-use Rattle.writing.proofs.lengths.contact_bytes.Statement.{statement}
-use Rattle.writing.proofs.lengths.contact_bytes.Tie as tie
+use Rattle.spelling.proofs.contact_bytes.Statement.{statement}
+use Rattle.spelling.proofs.contact_bytes.Tie as tie
 
 cast-u2-bytes : tie.Need-cast-u2-bytes
 cast-u2-bytes c = search needs

@@ -1,0 +1,2 @@
+-- Records as the fields of a message.
+pub mod Spelling

@@ -6,8 +6,8 @@ use lib.Dec.{eqb}
 use lib.ListN.{take}
 
 -- the longest entry of a message
-abbrev pub entryMost : ℕ
-entryMost = 4098
+abbrev pub sentMost : ℕ
+sentMost = 4098
 
 -- the entry of the first n bytes; none of no bytes
 unfoldable pub entryOf : ℕ → List ℕ → List ℕ

@@ -5,20 +5,20 @@ ghost use Prim.Native.Nat.{_≤_};
 ghost use lib.ListN.{length};
 ghost use Rattle.messages.specs.Header.{mostBytes};
 ghost use Rattle.lines.specs.Page.{Prints};
-ghost use Rattle.sent.specs.Entry.{entryMost, entryOf};
+ghost use Rattle.sent.specs.Entry.{sentMost, entryOf};
 
 // The longest entry: two bytes of length, and the longest message.
-const ENTRY_MOST: usize = 2 + messages::MESSAGE_MOST;
+const SENT_MOST: usize = 2 + messages::MESSAGE_MOST;
 
 // Adds a bench file's entry of the n bytes at the front of the output, 16 bits of length first, whole; none where nothing was written.
 fn add_entry(page: &mut [u8], place: usize, output: &[u8], n: usize) -> usize
-    requires { ⌜ (n ≤ length (now output)) × (n ≤ mostBytes) × (place ≤ length (now page)) × (entryMost ≤ length (now page)) ⌝ }
+    requires { ⌜ (n ≤ length (now output)) × (n ≤ mostBytes) × (place ≤ length (now page)) × (sentMost ≤ length (now page)) ⌝ }
     ensures { λ r. ⌜ Prints (entryOf n (now (output .entry))) place r (now (page .entry)) (now (page .exit)) ⌝ }
 {
     if n == 0 {
         return place;
     }
-    let at = lines::turn_over(page, place, ENTRY_MOST);
+    let at = lines::turn_over(page, place, SENT_MOST);
     let high = lines::add_byte(page, at, (n / 256 % 256) as u8);
     let low = lines::add_byte(page, high, (n % 256) as u8);
     lines::add_text(page, low, &output[..n])
@@ -28,7 +28,7 @@ fn add_entry(page: &mut [u8], place: usize, output: &[u8], n: usize) -> usize
 // the output the longest message and no more.
 // A proved loop has to end, and nothing says that an input does: it stops after more entries than any run has.
 fn run(space: &mut [u8], page: &mut [u8], output: &mut [u8])
-    requires { ⌜ (65537 ≤ length (now space)) × (entryMost ≤ length (now page)) × (length (now output) ≡ mostBytes) ⌝ }
+    requires { ⌜ (65537 ≤ length (now space)) × (sentMost ≤ length (now page)) × (length (now output) ≡ mostBytes) ⌝ }
 {
     let mut panel = panels::fresh();
     let mut window = feed::opened();

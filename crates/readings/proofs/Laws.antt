@@ -42,6 +42,10 @@ module _ (s p o : List ℕ) where
   pub all-enough : Enough s p o → true ≡ isEnough s p o
   all-enough e = rw (le-leb _ _ (e .entry), le-leb _ _ (e .line), le-leb _ _ (e .records))
 
+-- what a caller that lends enough learns
+pub not-refused : (s₀ s p₀ p o₀ o : List ℕ) (r : Bool) → RunsOver s₀ s p₀ p o₀ o r → Enough s₀ p₀ o₀ → r ≡ true
+not-refused s₀ s p₀ p o₀ o r h k = h .answer ∙ sym (all-enough s₀ p₀ o₀ k)
+
 -- ---- the same bytes
 
 pub not-true : false ≡ true → ⊥

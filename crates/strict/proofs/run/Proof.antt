@@ -1,5 +1,7 @@
 -- `strict::run` meets its contract: what it lends is enough.
 -- Assumes nothing.
+use native.Mathlib.Omega.{arith}
+use Rattle.readings.proofs.Laws.{not-refused}
 use borrow.Author.Needs.{needs}
 use Rattle.strict.proofs.run.Statement.{statement}
 use Rattle.strict.proofs.run.Tie as tie
@@ -17,7 +19,7 @@ run-requires : tie.Need-run-requires
 run-requires c κs = search needs
 
 returns : tie.Need-returns
-returns c = c .before .before .before .run .ensures .answer
+returns c = not-refused _ _ _ _ _ _ _ (c .before .before .before .run .ensures) (record { entry = omega arith; line = omega arith; records = omega arith })
 
 pub run-spec : {M : Type 1} → statement M
 run-spec =

@@ -17,5 +17,5 @@ abbrev pub badWord : List ℕ
 badWord = 32 ∷ 98 ∷ 97 ∷ 100 ∷ []
 
 -- of an entry that was carried out, and of the output after it
-unfoldable pub lineOf : Obeyed → List ℕ → List (List ℕ)
-lineOf obeyed output = cond (obeyed .known) (writtenText (obeyed .written) output) (badWord ∷ [])
+unfoldable pub saidOf : Obeyed → List ℕ → List (List ℕ)
+saidOf obeyed output = cond (obeyed .known) (writtenText (obeyed .written) output) (badWord ∷ [])

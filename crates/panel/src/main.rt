@@ -9,7 +9,7 @@ ghost use lib.ListN.{length};
 ghost use Rattle.messages.specs.Header.{mostBytes};
 ghost use Rattle.lines.specs.Page.{Added};
 ghost use Rattle.turns.specs.Turns.{TellsLine};
-ghost use Rattle.panel.specs.Line.{lineMost, restMost, lineOf};
+ghost use Rattle.panel.specs.Line.{lineMost, restMost, saidOf};
 ghost use Rattle.feed.specs.Within.{entryMost};
 
 // The longest line: the number, the refusal and the bytes, each of at most 20 digits, two of them after a space; a space and two digits for
@@ -18,7 +18,7 @@ const LINE_MOST: usize = 20 + 2 * 21 + 1 + 2 * messages::MESSAGE_MOST + 1;
 
 // What is said of an entry after its number.
 fn add_answer(page: &mut [u8], place: usize, obeyed: Obeyed, output: &[u8]) -> usize
-    ensures { λ r. ⌜ Added (lineOf obeyed (now (output .entry))) place r (now (page .entry)) (now (page .exit)) ⌝ }
+    ensures { λ r. ⌜ Added (saidOf obeyed (now (output .entry))) place r (now (page .entry)) (now (page .exit)) ⌝ }
 {
     if obeyed.known {
         let written = obeyed.written;
@@ -30,7 +30,7 @@ fn add_answer(page: &mut [u8], place: usize, obeyed: Obeyed, output: &[u8]) -> u
 // The rest of an entry's line, whole.
 fn tell(page: &mut [u8], line: Stand, obeyed: Obeyed, output: &[u8]) -> Stand
     requires { ⌜ (line .at + restMost ≤ length (now page)) × (obeyed .written .bytes ≤ mostBytes) ⌝ }
-    ensures { λ r. ⌜ TellsLine (lineOf obeyed (now (output .entry))) line (now (page .entry)) (now (page .exit)) r ⌝ }
+    ensures { λ r. ⌜ TellsLine (saidOf obeyed (now (output .entry))) line (now (page .entry)) (now (page .exit)) r ⌝ }
 {
     let at = add_answer(page, line.at, obeyed, output);
     turns::end_line(page, line, at)

@@ -1,16 +1,16 @@
--- The line of a message: what writing it back gives, and how long it is.
+-- When what is lent is enough; and the line of a message, what writing it back gives, and how long it is.
 -- Assumes nothing.
-use Prim.Native.Nat.{ℕ, _*_, _≤_}
+use Prim.Native.Nat.{ℕ, _*_, _≤_, _<_}
 use mathlib.Core.Path.{_≡_, refl, sym, ap, subst, _∙_}
 use mathlib.Core.Bool.{Bool, true, false, cond}
 use mathlib.Core.List.{List, [], _∷_, _++_}
 use native.Mathlib.Omega.{arith}
 use lib.Dec.{eqb}
 use lib.ListN.{length, take, drop, length-append}
-use borrow.Author.Tests.{eq-eqb, eqb-true}
+use borrow.Author.Tests.{eq-eqb, eqb-true, le-leb, lt-leb}
 use Rattle.paper.specs.Refusals.{none}
 use Rattle.paper.specs.declared.Milliseconds.{Milliseconds}
-use Rattle.slices.specs.Writing.{Draft, bytes, refuse, given, answered, bytesOf, left, Writes}
+use Rattle.slices.specs.Writing.{Draft, bytes, refuse, given, answered, laidOf, left, Writes}
 use Rattle.slices.specs.declared.Written.{Written}
 use Rattle.slices.proofs.Laws.{given-few, front-left}
 use Rattle.house.specs.Fields.{recordBytes}
@@ -18,9 +18,34 @@ use Rattle.messages.specs.Header.{mostBytes}
 use Rattle.reading.specs.Plain as plain
 use Rattle.reading.specs.declared.PlainAnswer.{PlainAnswer}
 use Rattle.writing.specs.TouchDraft.{touchDraft}
+use Rattle.feed.specs.Within.{entryMost}
+use Rattle.receiver.specs.Limits.{mostOutput}
 use Rattle.lines.specs.Page.{textOf, Added, decimal}
 use Rattle.lines.proofs.Decimal.{digits-few}
-use Rattle.readings.specs.Line.{answerText, backDraft, sameAs, outcomeText, backText}
+use Rattle.readings.specs.Line.{lineMost, readText, backDraft, sameAs, outcomeText, backText}
+use Rattle.readings.specs.Run.{Enough, isEnough, RunsOver}
+
+-- ---- what is lent
+
+module _ (s p o : List ℕ) where
+  left-alone : false ≡ isEnough s p o → RunsOver s s p p o o false
+  left-alone e = record { answer = e; refused = λ z. (refl, refl, refl); kept = record { space = refl; page = refl; output = refl } }
+
+  pub no-entry : length s < entryMost → RunsOver s s p p o o false
+  no-entry h = left-alone (rw (lt-leb _ _ h))
+
+  pub no-line : entryMost ≤ length s → length p < lineMost → RunsOver s s p p o o false
+  no-line h k = left-alone (rw (le-leb _ _ h, lt-leb _ _ k))
+
+  pub no-records : entryMost ≤ length s → lineMost ≤ length p → length o < mostOutput → RunsOver s s p p o o false
+  no-records h k l = left-alone (rw (le-leb _ _ h, le-leb _ _ k, lt-leb _ _ l))
+
+  pub all-enough : Enough s p o → true ≡ isEnough s p o
+  all-enough e = rw (le-leb _ _ (e .entry), le-leb _ _ (e .line), le-leb _ _ (e .records))
+
+-- what a caller that lends enough learns
+pub not-refused : (s₀ s p₀ p o₀ o : List ℕ) (r : Bool) → RunsOver s₀ s p₀ p o₀ o r → Enough s₀ p₀ o₀ → r ≡ true
+not-refused s₀ s p₀ p o₀ o r h k = h .answer ∙ sym (all-enough s₀ p₀ o₀ k)
 
 -- ---- the same bytes
 
@@ -74,8 +99,8 @@ unfolding backText
 back-said strictly same l a output records w before after at next p q z h r n s t =
     let d : given (length before) (touchDraft (a .time) records) ≡ backDraft a output = rw (r, n) in
     let e : w ≡ answered (backDraft a output) = h .answer ∙ ap answered d in
-    let f : take (w .bytes) after ≡ bytesOf (backDraft a output) = rw (e, h .output, d) (front-left (backDraft a output) before) in
-    let g : same ≡ sameAs l (bytesOf (backDraft a output)) = s ∙ ap (sameAs l) f in
+    let f : take (w .bytes) after ≡ laidOf (backDraft a output) = rw (e, h .output, d) (front-left (backDraft a output) before) in
+    let g : same ≡ sameAs l (laidOf (backDraft a output)) = s ∙ ap (sameAs l) f in
     rw (eq-eqb _ _ z) (subst (λ (x : List (List ℕ)). Added x at next p q) (λ i. outcomeText strictly (g i) (e i .bytes)) t)
 
 -- ---- how long it is
@@ -89,11 +114,11 @@ back-short : (strictly : Bool) (l : List ℕ) (a : PlainAnswer) (output : List �
 unfolding backText
 back-short strictly l a output = go (eqb (a .refusal) none)
   where
-    go : (b : Bool) → let d : Draft = backDraft a output in length (textOf (cond b (outcomeText strictly (sameAs l (bytesOf d)) (answered d .bytes)) [])) ≤ 29
-    go true = let d : Draft = backDraft a output in outcome-short strictly (sameAs l (bytesOf d)) (answered d .bytes)
+    go : (b : Bool) → let d : Draft = backDraft a output in length (textOf (cond b (outcomeText strictly (sameAs l (laidOf d)) (answered d .bytes)) [])) ≤ 29
+    go true = let d : Draft = backDraft a output in outcome-short strictly (sameAs l (laidOf d)) (answered d .bytes)
     go false = omega arith
 
-pub line-short : (strictly : Bool) (l : List ℕ) (a : PlainAnswer) (output : List ℕ) → length (textOf (answerText a ++ backText strictly l a output)) ≤ 92
+pub line-short : (strictly : Bool) (l : List ℕ) (a : PlainAnswer) (output : List ℕ) → length (textOf (readText a ++ backText strictly l a output)) ≤ 92
 line-short strictly l a output =
     let few : (n : ℕ) → length (decimal n) ≤ 20 = digits-few 19 in
     simp length-append (omega (arith, few (a .refusal), few (a .time .0), few (a .records), back-short strictly l a output))

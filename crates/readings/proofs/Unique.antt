@@ -4,9 +4,9 @@ use mathlib.Core.Path.{_≡_, sym, _∙_}
 use mathlib.Core.Bool.{Bool, false}
 use mathlib.Core.List.{List}
 use Prim.Native.Nat.{ℕ}
-use Rattle.readings.specs.Run.{Runs}
+use Rattle.readings.specs.Run.{RunsOver}
 
-module _ (s₀ s s′ p₀ p p′ o₀ o o′ : List ℕ) (r r′ : Bool) (x : Runs s₀ s p₀ p o₀ o r) (y : Runs s₀ s′ p₀ p′ o₀ o′ r′) where
+module _ (s₀ s s′ p₀ p p′ o₀ o o′ : List ℕ) (r r′ : Bool) (x : RunsOver s₀ s p₀ p o₀ o r) (y : RunsOver s₀ s′ p₀ p′ o₀ o′ r′) where
   pub run-unique : r ≡ r′
   run-unique = x .answer ∙ sym (y .answer)
 

@@ -6,7 +6,7 @@ use mathlib.Core.List.{List, [], _∷_, _++_}
 use lib.Dec.{eqb}
 use lib.ListN.{take}
 use Rattle.paper.specs.Refusals.{none}
-use Rattle.slices.specs.Writing.{Draft, given, answered, bytesOf}
+use Rattle.slices.specs.Writing.{Draft, given, answered, laidOf}
 use Rattle.house.specs.Fields.{recordBytes}
 use Rattle.messages.specs.Header.{mostBytes}
 use Rattle.reading.specs.Plain.{ReadsBy}
@@ -25,8 +25,8 @@ restMost = 93
 
 -- ---- what was read
 
-abbrev pub answerText : PlainAnswer → List (List ℕ)
-answerText a = space ∷ decimal (a .refusal) ∷ space ∷ decimal (a .time .0) ∷ space ∷ decimal (a .records) ∷ []
+abbrev pub readText : PlainAnswer → List (List ℕ)
+readText a = space ∷ decimal (a .refusal) ∷ space ∷ decimal (a .time .0) ∷ space ∷ decimal (a .records) ∷ []
 
 -- ---- what writing it back gives
 
@@ -57,7 +57,7 @@ outcomeText strictly same n = cond same (sameWord ∷ []) (cond strictly (differ
 unfoldable pub backText : Bool → List ℕ → PlainAnswer → List ℕ → List (List ℕ)
 backText strictly message a output =
     let d : Draft = backDraft a output in
-    cond (eqb (a .refusal) none) (outcomeText strictly (sameAs message (bytesOf d)) (answered d .bytes)) []
+    cond (eqb (a .refusal) none) (outcomeText strictly (sameAs message (laidOf d)) (answered d .bytes)) []
 
 -- ---- the line
 
@@ -65,4 +65,4 @@ backText strictly message a output =
 pub record Tells (strictly : Bool) (message : List ℕ) (b : Stand) (p₀ p o₀ o : List ℕ) (r : Stand) : Type 0 where
   pub answer : PlainAnswer
   pub read : ReadsBy strictly message answer o₀ o
-  pub line : TellsLine (answerText answer ++ backText strictly message answer o) b p₀ p r
+  pub line : TellsLine (readText answer ++ backText strictly message answer o) b p₀ p r

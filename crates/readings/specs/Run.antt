@@ -25,7 +25,7 @@ pub record Keeps (s₀ s p₀ p o₀ o : List ℕ) : Type 0 where
   pub output : length o ≡ length o₀
 
 -- THE CONTRACT of a run, whose space, page and output held s₀, p₀ and o₀: where they are not enough it answers false, and they stay as they were
-pub record Runs (s₀ s p₀ p o₀ o : List ℕ) (r : Bool) : Type 0 where
+pub record RunsOver (s₀ s p₀ p o₀ o : List ℕ) (r : Bool) : Type 0 where
   pub answer : r ≡ isEnough s₀ p₀ o₀
   pub refused : r ≡ false → (s ≡ s₀) × (p ≡ p₀) × (o ≡ o₀)
   pub kept : Keeps s₀ s p₀ p o₀ o

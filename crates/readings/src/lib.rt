@@ -7,8 +7,8 @@ ghost use Prim.Native.Nat.{_+_, _*_, _≤_};
 ghost use lib.ListN.{length};
 ghost use Rattle.house.specs.Fields.{recordBytes};
 ghost use Rattle.lines.specs.Page.{Added};
-ghost use Rattle.readings.specs.Line.{outcomeText, backText, answerText, restMost, Tells};
-ghost use Rattle.readings.specs.Run.{Enough, Keeps, Runs};
+ghost use Rattle.readings.specs.Line.{outcomeText, backText, readText, restMost, Tells};
+ghost use Rattle.readings.specs.Run.{Enough, Keeps, RunsOver};
 
 // The longest line: the number of at most 20 digits; the refusal, encodeTime and the records, each a space and at most 20 digits;
 // ` becomes`, a space and at most 20 digits; and the line's end.
@@ -16,7 +16,7 @@ const LINE_MOST: usize = 20 + 3 * 21 + 8 + 21 + 1;
 
 // What a reading answered.
 fn add_answer(page: &mut [u8], place: usize, answer: PlainAnswer) -> usize
-    ensures { λ r. ⌜ Added (answerText answer) place r (now (page .entry)) (now (page .exit)) ⌝ }
+    ensures { λ r. ⌜ Added (readText answer) place r (now (page .entry)) (now (page .exit)) ⌝ }
 {
     let time = answer.time;
     let refused = lines::add_field(page, place, answer.refusal as u64);
@@ -90,7 +90,7 @@ fn print_lines(space: &mut [u8], page: &mut [u8], output: &mut [u8], strictly: b
 // Reads standard input and prints its lines; or, where a buffer is too small for the longest entry, line or records, does nothing and
 // answers false.
 pub fn run(space: &mut [u8], page: &mut [u8], output: &mut [u8], strictly: bool) -> bool
-    ensures { λ r. ⌜ Runs (now (space .entry)) (now (space .exit)) (now (page .entry)) (now (page .exit)) (now (output .entry)) (now (output .exit)) r ⌝ }
+    ensures { λ r. ⌜ RunsOver (now (space .entry)) (now (space .exit)) (now (page .entry)) (now (page .exit)) (now (output .entry)) (now (output .exit)) r ⌝ }
 {
     if space.len() < feed::ENTRY_MOST {
         return false;

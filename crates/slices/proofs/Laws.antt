@@ -10,7 +10,7 @@ use lib.ListN.{length, take, drop}
 use lib.Seq.{take-at}
 use borrow.Author.Tests.{le-leb, lt-leb, leb-true}
 use Rattle.paper.specs.Refusals.{none, noRoom}
-use Rattle.slices.specs.Writing.{laid, Draft, bytes, refuse, given, answered, bytesOf, left, Writes}
+use Rattle.slices.specs.Writing.{laid, Draft, bytes, refuse, given, answered, left, laidOf, Writes}
 use Rattle.slices.specs.declared.Written.{Written}
 
 -- room enough: the bytes are written
@@ -39,7 +39,7 @@ given-few room (bytes s) = go (leb (length s) room) refl
 given-few room (refuse e) = omega arith
 
 -- what was written stands at the front of the output
-pub front-left : (d : Draft) (before : List ℕ) → take (answered d .bytes) (left before d) ≡ bytesOf d
+pub front-left : (d : Draft) (before : List ℕ) → take (answered d .bytes) (left before d) ≡ laidOf d
 front-left (bytes s) before = take-at s (drop (length s) before) (length s) refl
 front-left (refuse e) before = refl
 

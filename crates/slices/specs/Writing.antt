@@ -27,15 +27,15 @@ abbrev pub answered : Draft → Written
 answered (bytes s) = record { refusal = none; bytes = length s }
 answered (refuse e) = record { refusal = e; bytes = 0 }
 
--- the bytes that are written: of a refusal none
-abbrev pub bytesOf : Draft → List ℕ
-bytesOf (bytes s) = s
-bytesOf (refuse e) = []
-
 -- ".. and the output stay[s] as [it was]"
 abbrev pub left : List ℕ → Draft → List ℕ
 left d (bytes s) = laid d s
 left d (refuse e) = d
+
+-- the bytes that are laid there: of a refusal none
+abbrev pub laidOf : Draft → List ℕ
+laidOf (bytes s) = s
+laidOf (refuse e) = []
 
 -- THE CONTRACT OF EVERY WRITER: of the draft d, lent an output that held `before`
 pub record Writes (d : Draft) (w : Written) (before after : List ℕ) : Type 0 where

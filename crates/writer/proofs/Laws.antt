@@ -11,14 +11,14 @@ use lib.Seq.{take-at, take-all}
 use borrow.Author.Tests.{le-leb}
 use Rattle.paper.specs.Refusals.{none}
 use Rattle.paper.specs.declared.Milliseconds.{Milliseconds}
-use Rattle.slices.specs.Writing.{laid, Draft, bytes, refuse, given, answered, bytesOf, left, Writes}
+use Rattle.slices.specs.Writing.{laid, Draft, bytes, refuse, given, answered, laidOf, left, Writes}
 use Rattle.slices.specs.declared.Written.{Written}
 use Rattle.slices.proofs.Laws.{given-few}
 use Rattle.messages.specs.Header.{mostBytes}
 use Rattle.writing.specs.TouchDraft.{touchDraft}
 use Rattle.lines.specs.Page.{textOf, Added, decimal, space, frontText, writtenText}
 use Rattle.lines.proofs.Hexes.{written-short}
-use Rattle.writer.specs.Line.{timeIn, draftIn, draftText, shortWord, lineOf}
+use Rattle.writer.specs.Line.{entryTime, draftIn, draftText, shortWord, saidOf}
 
 -- the first bytes of an output over which they were laid
 front-laid : (d s : List ℕ) → frontText (length s) (laid d s) ≡ frontText (length s) s
@@ -35,8 +35,8 @@ left-is (bytes s) before = ap (λ (t : List (List ℕ)). space ∷ decimal none 
 left-is (refuse e) before = refl
 
 pub line-written : (l records : List ℕ) (time : Milliseconds) (w : Written) (before after : List ℕ) (at next : ℕ) (p q : List ℕ) → Writes (touchDraft time records) w before after
-    → time ≡ timeIn l → records ≡ drop 4 l → length before ≡ mostBytes → 4 ≤ length l → Added (writtenText w after) at next p q → Added (lineOf l) at next p q
-unfolding lineOf
+    → time ≡ entryTime l → records ≡ drop 4 l → length before ≡ mostBytes → 4 ≤ length l → Added (writtenText w after) at next p q → Added (saidOf l) at next p q
+unfolding saidOf
 line-written l records time w before after at next p q h t r n k a =
     let d : given (length before) (touchDraft time records) ≡ draftIn l = rw (t, r, n) in
     let e : writtenText w after ≡ draftText (draftIn l) = rw (h .answer, h .output, d) (left-is (draftIn l) before) in
@@ -44,10 +44,10 @@ line-written l records time w before after at next p q h t r n k a =
 
 -- ---- how long it is
 
-pub line-short : (l : List ℕ) → length (textOf (lineOf l)) ≤ 8235
-unfolding lineOf
+pub line-short : (l : List ℕ) → length (textOf (saidOf l)) ≤ 8235
+unfolding saidOf
 line-short l = go (leb 4 (length l))
   where
     go : (b : Bool) → length (textOf (cond b (draftText (draftIn l)) (shortWord ∷ []))) ≤ 8235
-    go true = omega (arith, written-short (answered (draftIn l)) (bytesOf (draftIn l)), given-few mostBytes (touchDraft (timeIn l) (drop 4 l)))
+    go true = omega (arith, written-short (answered (draftIn l)) (laidOf (draftIn l)), given-few mostBytes (touchDraft (entryTime l) (drop 4 l)))
     go false = omega arith

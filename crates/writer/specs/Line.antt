@@ -7,7 +7,7 @@ use lib.Dec.{leb}
 use lib.ListN.{length, getD, drop}
 use Rattle.paper.specs.declared.Milliseconds.{Milliseconds}
 use Rattle.digits.specs.Digits.{joined}
-use Rattle.slices.specs.Writing.{Draft, given, answered, bytesOf}
+use Rattle.slices.specs.Writing.{Draft, given, answered, laidOf}
 use Rattle.messages.specs.Header.{mostBytes}
 use Rattle.writing.specs.TouchDraft.{touchDraft}
 use Rattle.lines.specs.Page.{writtenText}
@@ -22,21 +22,22 @@ restMost = 8236
 -- ---- the entry
 
 -- four bytes, most significant first
-abbrev pub timeIn : List ℕ → Milliseconds
-timeIn l = record { 0 = joined 0 (getD l 0 0 ∷ getD l 1 0 ∷ getD l 2 0 ∷ getD l 3 0 ∷ []) }
+abbrev pub entryTime : List ℕ → Milliseconds
+entryTime l = record { 0 = joined 0 (getD l 0 0 ∷ getD l 1 0 ∷ getD l 2 0 ∷ getD l 3 0 ∷ []) }
 
 -- what the writer gives of the rest, lent room for the longest message
 abbrev pub draftIn : List ℕ → Draft
-draftIn l = given mostBytes (touchDraft (timeIn l) (drop 4 l))
+draftIn l = given mostBytes (touchDraft (entryTime l) (drop 4 l))
 
 -- ---- the texts
 
 abbrev pub draftText : Draft → List (List ℕ)
-draftText d = writtenText (answered d) (bytesOf d)
+draftText d = writtenText (answered d) (laidOf d)
 
 -- " short"
 abbrev pub shortWord : List ℕ
 shortWord = 32 ∷ 115 ∷ 104 ∷ 111 ∷ 114 ∷ 116 ∷ []
 
-unfoldable pub lineOf : List ℕ → List (List ℕ)
-lineOf l = cond (leb 4 (length l)) (draftText (draftIn l)) (shortWord ∷ [])
+-- fewer than four bytes have no time
+unfoldable pub saidOf : List ℕ → List (List ℕ)
+saidOf l = cond (leb 4 (length l)) (draftText (draftIn l)) (shortWord ∷ [])

@@ -7,7 +7,7 @@ ghost use Prim.Native.Nat.{_+_, _≤_};
 ghost use lib.ListN.{length};
 ghost use Rattle.lines.specs.Page.{Added};
 ghost use Rattle.turns.specs.Turns.{TellsLine};
-ghost use Rattle.writer.specs.Line.{lineMost, restMost, lineOf};
+ghost use Rattle.writer.specs.Line.{lineMost, restMost, saidOf};
 ghost use Rattle.feed.specs.Within.{entryMost};
 
 // The longest line: the number, the refusal and the bytes, each of at most 20 digits, two of them after a space; a space and two digits for
@@ -16,7 +16,7 @@ const LINE_MOST: usize = 20 + 2 * 21 + 1 + 2 * messages::MESSAGE_MOST + 1;
 
 // What is said of an entry after its number.
 fn add_writing(page: &mut [u8], place: usize, entry: &[u8]) -> usize
-    ensures { λ r. ⌜ Added (lineOf (now (entry .entry))) place r (now (page .entry)) (now (page .exit)) ⌝ }
+    ensures { λ r. ⌜ Added (saidOf (now (entry .entry))) place r (now (page .entry)) (now (page .exit)) ⌝ }
 {
     if entry.len() < 4 {
         return lines::add_text(page, place, b" short");
@@ -30,7 +30,7 @@ fn add_writing(page: &mut [u8], place: usize, entry: &[u8]) -> usize
 // The rest of an entry's line, whole.
 fn tell(page: &mut [u8], line: Stand, entry: &[u8]) -> Stand
     requires { ⌜ line .at + restMost ≤ length (now page) ⌝ }
-    ensures { λ r. ⌜ TellsLine (lineOf (now (entry .entry))) line (now (page .entry)) (now (page .exit)) r ⌝ }
+    ensures { λ r. ⌜ TellsLine (saidOf (now (entry .entry))) line (now (page .entry)) (now (page .exit)) r ⌝ }
 {
     let at = add_writing(page, line.at, entry);
     turns::end_line(page, line, at)

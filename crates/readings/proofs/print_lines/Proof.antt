@@ -1,12 +1,11 @@
 -- `readings::print_lines` is safe and ends: the numbers rise to the last. There is room for each line.
 -- Assumes nothing.
 use borrow.Author.Needs.{needs}
-use Prim.Native.Nat.{_-_}
+use Prim.Native.Nat.{_-_, _≤_}
 use mathlib.Core.Path.{_≡_, refl}
 use native.Mathlib.Omega.{arith}
 use lib.ListN.{length}
-use Rattle.turns.proofs.Laws.{rises, Begins, turn-begins, line-has-room}
-use Rattle.readings.specs.Line.{lineMost}
+use Rattle.turns.proofs.Laws.{rises, turn-begins, line-has-room}
 use Rattle.readings.proofs.print_lines.Statement.{statement}
 use Rattle.readings.proofs.print_lines.Tie as tie
 
@@ -16,13 +15,16 @@ Inv-loop space₀ page₀ output₀ strictly stand₀ space page output stand = 
 abbrev μ-loop : tie.MeasureT-loop
 μ-loop space₀ page₀ output₀ strictly stand₀ space page output stand = 18446744073709551615 - stand .number
 
--- the entry that was found
+-- the entry that was found lies within the space, and its number is that of the run
 entry : (c : tie.After-known-told Inv-loop μ-loop) →
     let t = c .before .before .before .before .before .before .before in
     let b = t .before .before .before .before .before .loop in
     let g = c .before .turn .given .0 in
-    Begins (b .stand) lineMost (t .next-turn .last .0) (b .page) (t .next-turn .last .1 .0) (g .0) (g .1 .0) (g .1 .1 .0)
-entry c = let t = c .before .before .before .before .before .before .before in turn-begins _ _ _ _ _ _ _ _ _ (rw (c .before .turn .given .1) at (t .next-turn .ensures))
+    (g .0 ≤ g .1 .0) × (g .1 .0 ≤ length (t .next-turn .last .0)) × (g .1 .1 .0 .number ≡ b .stand .number)
+entry c =
+    let t = c .before .before .before .before .before .before .before in
+    let e = turn-begins _ _ _ _ _ _ _ _ _ (rw (c .before .turn .given .1) at (t .next-turn .ensures)) in
+    (e .order, e .inside, e .number)
 
 begin-requires : tie.Need-begin-requires Inv-loop μ-loop
 begin-requires c κs = search needs
@@ -52,25 +54,27 @@ returns : tie.Need-returns Inv-loop μ-loop
 returns c = search needs
 
 sub-tell : tie.Need-sub-tell Inv-loop μ-loop
-sub-tell c = entry (c .before) .order
+sub-tell c = entry (c .before) .0
 
 part-tell-start : tie.Need-part-tell-start Inv-loop μ-loop
-part-tell-start c = entry (c .before .before) .order
+part-tell-start c = entry (c .before .before) .0
 
 part-tell-end : tie.Need-part-tell-end Inv-loop μ-loop
-part-tell-end c = entry (c .before .before) .inside
+part-tell-end c = entry (c .before .before) .1
 
 tell-requires : tie.Need-tell-requires Inv-loop μ-loop
 tell-requires c κs =
     let k = c .before .before .before .before in
-    let b = k .before .before .before .before .before .before .before .before .before .before .before .before in
-    omega (arith, line-has-room _ _ _ _ _ _ _ _ (entry k) (omega arith) (omega (arith, b .loop .inv .1, b .before .before .before .before .before .pre .line)))
+    let t = k .before .before .before .before .before .before .before in
+    let b = t .before .before .before .before .before in
+    let e = turn-begins _ _ _ _ _ _ _ _ _ (rw (k .before .turn .given .1) at (t .next-turn .ensures)) in
+    omega (arith, line-has-room _ _ _ _ _ _ _ _ e (omega arith) (omega (arith, b .loop .inv .1, b .before .before .before .before .before .pre .line)))
 
 loop-less : tie.Need-loop-less Inv-loop μ-loop
 loop-less c =
     let a = c .before .before .before .before in
     let k = a .before .before .before .before .before in
-    omega (arith, rises _ _ _ (entry k .number) (a .tell .ensures .line .number) (k .before .before .before .before .before .before .before .before .before .before .if1 .taken))
+    omega (arith, rises _ _ _ (entry k .2) (a .tell .ensures .line .number) (k .before .before .before .before .before .before .before .before .before .before .if1 .taken))
 
 loop-again : tie.Need-loop-again Inv-loop μ-loop
 loop-again c =

@@ -1,23 +1,32 @@
 -- `readings::run` meets its contract: nothing is done before all three lengths are looked at.
 -- Assumes nothing.
-use mathlib.Core.Path.{refl, sym}
-use borrow.Author.Tests.{le-leb, lt-leb}
-use Rattle.readings.proofs.Laws.{not-true}
+use mathlib.Core.Path.{sym}
+use native.Mathlib.Omega.{arith}
+use Rattle.readings.specs.Run.{Enough}
+use Rattle.readings.proofs.Laws.{no-entry, no-line, no-records, all-enough, not-true}
 use borrow.Author.Needs.{needs}
 use Rattle.readings.proofs.run.Statement.{statement}
 use Rattle.readings.proofs.run.Tie as tie
 
 returns : tie.Need-returns
-returns c = record { answer = rw (lt-leb _ _ (c .if1 .taken)); refused = λ e. (refl, refl, refl); kept = record { space = refl; page = refl; output = refl } }
+returns c =
+    let a = c .before .before .before .before .args in
+    no-entry (a .space .now) (a .page .now) (a .output .now) (omega (arith, c .if1 .taken))
 
 returns-2 : tie.Need-returns-2
-returns-2 c = record { answer = rw (le-leb _ _ (c .before .if1 .left), lt-leb _ _ (c .if2 .taken)); refused = λ e. (refl, refl, refl); kept = record { space = refl; page = refl; output = refl } }
+returns-2 c =
+    let a = c .before .before .before .before .before .args in
+    no-line (a .space .now) (a .page .now) (a .output .now) (omega (arith, c .before .if1 .left)) (omega (arith, c .if2 .taken))
 
 returns-3 : tie.Need-returns-3
-returns-3 c = record { answer = rw (le-leb _ _ (c .before .before .if1 .left), le-leb _ _ (c .before .if2 .left), lt-leb _ _ (c .if3 .taken)); refused = λ e. (refl, refl, refl); kept = record { space = refl; page = refl; output = refl } }
+returns-3 c =
+    let a = c .before .before .before .before .before .before .args in
+    no-records (a .space .now) (a .page .now) (a .output .now) (omega (arith, c .before .before .if1 .left)) (omega (arith, c .before .if2 .left)) (omega (arith, c .if3 .taken))
 
 print-lines-requires : tie.Need-print-lines-requires
-print-lines-requires c κs = search needs
+print-lines-requires c κs =
+    let e = c .before .before .before in
+    record { entry = omega (arith, e .before .before .if1 .left); line = omega (arith, e .before .if2 .left); records = omega (arith, e .if3 .left) }
 
 same-length : tie.Need-same-length
 same-length c = search needs
@@ -32,11 +41,9 @@ returns-4 : tie.Need-returns-4
 returns-4 c =
     let p = c .before .before .before .before .before .before in
     let e = p .before .before .before .before in
-    record {
-      answer = rw (le-leb _ _ (e .before .before .if1 .left), le-leb _ _ (e .before .if2 .left), le-leb _ _ (e .if3 .left));
-      refused = λ z. absurd (not-true (sym z));
-      kept = p .print-lines .ensures;
-    }
+    let a = e .before .before .before .before .before .before .args in
+    let k : Enough (a .space .now) (a .page .now) (a .output .now) = record { entry = omega (arith, e .before .before .if1 .left); line = omega (arith, e .before .if2 .left); records = omega (arith, e .if3 .left) } in
+    record { answer = all-enough (a .space .now) (a .page .now) (a .output .now) k; refused = λ z. absurd (not-true (sym z)); kept = p .print-lines .ensures }
 
 pub run-spec : {M : Type 1} → statement M
 run-spec =

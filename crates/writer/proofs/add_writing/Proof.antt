@@ -3,7 +3,7 @@
 use mathlib.Core.Path.{refl}
 use borrow.Author.Tests.{lt-leb}
 use Rattle.slices.proofs.Tails.{tail-is}
-use Rattle.writer.specs.Line.{lineOf}
+use Rattle.writer.specs.Line.{saidOf}
 use Rattle.writer.proofs.Laws.{line-written}
 use borrow.Author.Needs.{needs}
 use Rattle.writer.proofs.add_writing.Statement.{statement}
@@ -19,7 +19,7 @@ same-length : tie.Need-same-length
 same-length c = search needs
 
 returns : tie.Need-returns
-unfolding lineOf
+unfolding saidOf
 returns c = rw (lt-leb _ _ (c .before .before .before .before .before .if1 .taken)) (c .before .before .add-text .ensures)
 
 shared-slice-read-join-four : tie.Need-shared-slice-read-join-four

@@ -1,5 +1,6 @@
 // Buffers of bench-file entries, each fed to one receiver in a single call with the room and the places that stand before it: for
 // each its number, the refusal, the entries and the records, and a line for each entry that was fed.
+#![tactic(auto)]
 ghost use Rattle.std.specs.Prelude.{◌≤◌, length};
 ghost use Rattle.feed.specs.Within.{entry_most};
 
@@ -14,7 +15,7 @@ const HEAD: usize = 6;
 const LINE_MOST: usize = 169 + 2 * receiver::OUTPUT_MOST + 1;
 
 // The receiver after a buffer, and where the page goes on.
-#[derive(Drop)]
+#[derive(Clone, Copy)]
 struct Told {
     receiver: Receiver,
     at: usize,

@@ -1,4 +1,5 @@
 // Document 01's bench program, on standard input.
+#![tactic(auto)]
 ghost use Rattle.std.specs.Prelude.{◌≤◌};
 
 // Prints the lines of the input: what is lent suffices for any.

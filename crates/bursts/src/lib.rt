@@ -1,4 +1,5 @@
 // A burst of messages in one call: a buffer of bench-file entries, fed to one receiver, with an answer for each.
+#![tactic(auto)]
 ghost use Rattle.std.specs.Prelude.{◌≡◌, length};
 ghost use Rattle.contacts.specs.Ruling.{arrays_from};
 ghost use Rattle.receiver.specs.Receive.{of_parts};
@@ -10,7 +11,7 @@ use receiver::{Marks, Receiver};
 
 // What becomes of a batch: a refusal's number, 0 for none; how many entries were fed, and how many records they wrote.
 #[repr(C)]
-#[derive(Drop)]
+#[derive(Clone, Copy)]
 pub struct Batch {
     pub refusal: u8,
     pub entries: usize,
@@ -18,7 +19,7 @@ pub struct Batch {
 }
 
 // The receiver after a batch, and the answer.
-#[derive(Drop)]
+#[derive(Clone, Copy)]
 pub struct ReceivedAll {
     pub receiver: Receiver,
     pub batch: Batch,
@@ -26,14 +27,14 @@ pub struct ReceivedAll {
 
 // The marks after a batch, and the answer.
 #[repr(C)]
-#[derive(Drop)]
+#[derive(Clone, Copy)]
 pub struct BatchTurn {
     pub marks: Marks,
     pub batch: Batch,
 }
 
 // The whole entries at the front of a buffer: how many they are, and their bytes.
-#[derive(Drop)]
+#[derive(Clone, Copy)]
 pub(crate) struct Counted {
     pub entries: usize,
     pub bytes: usize,

@@ -1,5 +1,6 @@
 // A label over entries that are commands: a list of buttons, one of them shown or hidden, or records. Of each entry its number, and what
 // came of it; of records the refusal, how many choices there were, and each as a contact's id and an item.
+#![tactic(auto)]
 ghost use Rattle.std.specs.Prelude.{◌*◌, ◌≤◌, length};
 ghost use Rattle.feed.specs.Within.{entry_most};
 
@@ -19,7 +20,7 @@ const ROOM_MOST: usize = 4096;
 const LINE_MOST: usize = 65536;
 
 // A label and its list, whose other places are hidden.
-#[derive(Drop)]
+#[derive(Clone, Copy)]
 struct Screen {
     label: Label,
     buttons: [Button; 64],
@@ -27,7 +28,7 @@ struct Screen {
 }
 
 // A screen after an entry, and where its line goes on.
-#[derive(Drop)]
+#[derive(Clone, Copy)]
 struct Told {
     screen: Screen,
     at: usize,

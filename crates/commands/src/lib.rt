@@ -1,4 +1,5 @@
 // What the programs over a panel share: an entry of their input is a command, and the command carried out.
+#![tactic(auto)]
 mod carrying;
 mod parts;
 
@@ -18,7 +19,7 @@ const TOUCH: u8 = 3;
 const DISMISSAL: u8 = 6;
 
 // The panel after an entry, whether the entry was a command, and what was answered. A message that arrived writes nothing.
-#[derive(Drop)]
+#[derive(Clone, Copy)]
 pub struct Obeyed {
     pub panel: Panel,
     pub known: bool,

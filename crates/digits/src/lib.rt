@@ -1,1 +1,2 @@
 // Base 256, most significant digit first: the definitions stand in specs/, their laws in proofs/.
+#![tactic(auto)]

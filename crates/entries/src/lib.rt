@@ -1,4 +1,5 @@
 // Document 01, "A bench file": entries of a 16-bit length, most significant byte first, then a message.
+#![tactic(auto)]
 mod numbers;
 
 ghost use Rattle.std.specs.Prelude.{◌≡◌, ◌+◌, ◌*◌};
@@ -7,7 +8,7 @@ ghost use Rattle.entries.specs.Entries.{front_of};
 pub use numbers::{join_four, join_two};
 
 // What stands at the front of a part of a bench file.
-#[derive(Drop)]
+#[derive(Clone, Copy)]
 pub enum Front {
     // A whole entry, whose message has that many bytes.
     Entry(usize),

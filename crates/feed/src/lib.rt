@@ -1,4 +1,5 @@
 // The entries of a bench file that is read, through a lent space: a file of any size in constant memory.
+#![tactic(auto)]
 ghost use Rattle.std.specs.Prelude.{◌≡◌, ◌+◌, ◌≤◌, length};
 ghost use Rattle.entries.specs.Entries.{front_of};
 ghost use Rattle.feed.specs.Within.{Inside, bytes_in, Moves, ReadsOn, Fills, front_next, HandsOut};
@@ -12,14 +13,14 @@ pub const ENTRY_MOST: usize = 65537;
 pub const SPACE: usize = 131072;
 
 // The bytes of the space that were read and not yet handed out.
-#[derive(Drop)]
+#[derive(Clone, Copy)]
 pub struct Window {
     pub at: usize,
     pub end: usize,
 }
 
 // What comes next.
-#[derive(Drop)]
+#[derive(Clone, Copy)]
 pub enum Next {
     // An entry: its message begins there and has that many bytes; and what is left after it.
     Entry(usize, usize, Window),

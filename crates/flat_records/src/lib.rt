@@ -1,4 +1,5 @@
 // A house record as numbers alone, for callers that have no enums.
+#![tactic(auto)]
 ghost use Rattle.std.specs.Prelude.{◌≡◌};
 ghost use Rattle.flat_records.specs.Flat.{flat, flattened, bare, flat_head, flat_contact, refused as refusedRecord};
 
@@ -7,7 +8,7 @@ use paper::Microseconds;
 
 // A record as numbers alone, since an enum does not cross to C. What its kind does not have is 0.
 #[repr(C)]
-#[derive(Drop)]
+#[derive(Clone, Copy)]
 pub struct FlatRecord {
     pub refusal: u8,
     pub kind: u8,

@@ -1,4 +1,5 @@
 // The records of a frame, from the frame's bytes in a message.
+#![tactic(auto)]
 mod find;
 mod write;
 
@@ -7,7 +8,7 @@ use house::Head;
 pub use write::write_frame;
 
 // A frame in a message: its head, where its contacts begin, and where they end.
-#[derive(Drop)]
+#[derive(Clone, Copy)]
 pub struct FoundFrame {
     pub head: Head,
     pub contacts: usize,
@@ -15,7 +16,7 @@ pub struct FoundFrame {
 }
 
 // The head of a frame in a message, and where its contacts begin.
-#[derive(Drop)]
+#[derive(Clone, Copy)]
 pub struct FoundHead {
     pub head: Head,
     pub contacts: usize,

@@ -1,5 +1,6 @@
 // Bench files with other settings and other ends than the bench program's own, since a receiver takes one client ready: for each
 // file that an argument names its name, and the lines of its entries, fed to a fresh receiver.
+#![tactic(auto)]
 ghost use Rattle.std.specs.Prelude.{◌≤◌};
 ghost use Rattle.report.specs.Report.{Enough};
 

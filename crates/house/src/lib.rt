@@ -1,4 +1,5 @@
 // House records: 21 bytes, bit-packed, most significant bit first. What they are; `packing` writes them and `unpacking` reads them.
+#![tactic(auto)]
 ghost use Rattle.std.specs.Prelude.{◌≡◌, ◌%◌, ◌^◌};
 
 use paper::Microseconds;
@@ -16,19 +17,19 @@ pub const CANCELLED: u8 = 2;
 pub const DISMISSED: u8 = 3;
 
 // A frame's head: how many contacts follow, and the time since the frame before.
-#[derive(Drop)]
+#[derive(Clone, Copy)]
 pub struct Head {
     pub count: u16,
     pub offset: Microseconds,
 }
 
-#[derive(Drop)]
+#[derive(Clone, Copy)]
 pub struct Point {
     pub x: i32,
     pub y: i32,
 }
 
-#[derive(Drop)]
+#[derive(Clone, Copy)]
 pub struct Sides {
     pub left: i16,
     pub top: i16,
@@ -37,7 +38,7 @@ pub struct Sides {
 }
 
 // A contact as a message or a record carries it; its kind stands beside it.
-#[derive(Drop)]
+#[derive(Clone, Copy)]
 pub struct Contact {
     pub flags: u8,
     pub present: u8,
@@ -49,7 +50,7 @@ pub struct Contact {
 }
 
 // What stands at the front of a slice of records: a head, a contact with its kind, or no whole record and the refusal for it.
-#[derive(Drop)]
+#[derive(Clone, Copy)]
 pub enum Record {
     Head(Head),
     Contact(u8, Contact),

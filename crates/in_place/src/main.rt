@@ -1,6 +1,7 @@
 // Feeds a bench file of at most 64 KiB to one receiver through the call that updates it where it stands, and then to another through the
 // call that is lent its parts. Prints for each entry its number, the refusal, the records, and what was left in the receiver: the three marks
 // and how many contacts are active.
+#![tactic(auto)]
 ghost use Rattle.std.specs.Prelude.{◌≤◌, length};
 ghost use Rattle.lines.specs.Page.{text_of, Added, Prints};
 ghost use Rattle.in_place.specs.Line.{line_most, left_text, line_of, cut_line, Stands};

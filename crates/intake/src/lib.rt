@@ -1,4 +1,5 @@
 // The entries of a bench file, fed to a receiver: the bench program's loop, without reading and printing.
+#![tactic(auto)]
 ghost use Rattle.std.specs.Prelude.{◌≡◌, ◌≤◌, ◌<◌, length};
 ghost use Rattle.slices.specs.Writing.{laid};
 ghost use Rattle.contacts.specs.Ruling.{arrays_from};
@@ -12,7 +13,7 @@ use receiver::{Answer, Marks, Receiver};
 pub const ANSWER_NUMBERS: usize = 6;
 
 // The receiver after the entries that were fed, how many they are, their bytes in the file, and how many records they wrote.
-#[derive(Drop)]
+#[derive(Clone, Copy)]
 pub struct Fed {
     pub receiver: Receiver,
     pub entries: usize,
@@ -21,7 +22,7 @@ pub struct Fed {
 }
 
 // The same of a receiver that is lent in parts: its marks.
-#[derive(Drop)]
+#[derive(Clone, Copy)]
 pub struct FedParts {
     pub marks: Marks,
     pub entries: usize,

@@ -11,7 +11,7 @@ pub(crate) fn power(n: u8) -> u8
 }
 
 // The sign and the magnitude of a signed value.
-#[derive(Drop)]
+#[derive(Clone, Copy)]
 pub(crate) struct Parts {
     pub(crate) minus: u8,
     pub(crate) size: u64,

@@ -8,7 +8,7 @@ ghost use Rattle.integers.specs.Found.{found_of, Finds};
 use crate::common::{fewest_of, power, widened};
 
 // A sign (1 is minus), a magnitude and a length; or a refusal's number.
-#[derive(Drop)]
+#[derive(Clone, Copy)]
 pub(crate) enum Found {
     Value(u8, u64, usize),
     Refused(u8),

@@ -1,4 +1,5 @@
 // The five integers of 000, 2.2.2, read in their only form or in any.
+#![tactic(auto)]
 mod common;
 mod found;
 mod lenient;
@@ -16,31 +17,31 @@ pub use strict::{read_s2, read_s4, read_u2, read_u4, read_u8};
 
 // What a reader answers: a value and how many bytes it takes, or a refusal's number. Each kind has an
 // answer of its own, so that its value has the kind's own type.
-#[derive(Drop)]
+#[derive(Clone, Copy)]
 pub enum ReadU2 {
     Value(u16, usize),
     Refused(u8),
 }
 
-#[derive(Drop)]
+#[derive(Clone, Copy)]
 pub enum ReadS2 {
     Value(i16, usize),
     Refused(u8),
 }
 
-#[derive(Drop)]
+#[derive(Clone, Copy)]
 pub enum ReadU4 {
     Value(u32, usize),
     Refused(u8),
 }
 
-#[derive(Drop)]
+#[derive(Clone, Copy)]
 pub enum ReadS4 {
     Value(i32, usize),
     Refused(u8),
 }
 
-#[derive(Drop)]
+#[derive(Clone, Copy)]
 pub enum ReadU8 {
     Value(u64, usize),
     Refused(u8),

@@ -1,4 +1,5 @@
 // The C face: each call of include/kangirlo.h, a thin function over the call that does the work, with that call's contract.
+#![tactic(auto)]
 ghost use Rattle.std.specs.Prelude.{◌≡◌};
 ghost use Rattle.slices.specs.Writing.{Writes};
 ghost use Rattle.messages.specs.Bodies.{server_ready_draft, client_ready_draft, suspend_draft, resume_draft, dismiss_draft};

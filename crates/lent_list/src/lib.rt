@@ -1,11 +1,12 @@
 // The label's calls by value: a list of buttons of its own is lent to them, so that callers need no reference to a struct.
+#![tactic(auto)]
 ghost use Rattle.presses.specs.Buttons.{hit_in, SetsShown};
 ghost use Rattle.presses.specs.Choosing.{Chooses};
 
 use presses::{Button, Chosen, Label};
 
 // The list after a button of it was shown or hidden, and whether there was one.
-#[derive(Drop)]
+#[derive(Clone, Copy)]
 pub struct Relisted {
     pub buttons: [Button; 64],
     pub there: bool,

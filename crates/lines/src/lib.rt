@@ -1,4 +1,5 @@
 // Lines of text on a lent page, so that a program writes many of them at once.
+#![tactic(auto)]
 ghost use Rattle.std.specs.Prelude.{◌≡◌, ◌<◌, [], ◌∷◌};
 ghost use Rattle.lines.specs.Page.{Added, turned_to, decimal, hex_of, hexes, space, cut_word, front_text, written_text};
 ghost use Rattle.io.specs.Digits.{hex_digit_ascii as glyphOf};

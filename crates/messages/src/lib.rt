@@ -1,4 +1,5 @@
 // The messages of [MS-RDPEI] read: the header of all, and the bodies of all but touch; with the numbers that their writers need too.
+#![tactic(auto)]
 mod body;
 mod head;
 mod little;
@@ -43,7 +44,7 @@ pub const FLAGS_END: u32 = 4;
 
 // The settings that a client ready message declares.
 #[repr(C)]
-#[derive(Drop)]
+#[derive(Clone, Copy)]
 pub struct Ready {
     pub flags: u32,
     pub version: u32,
@@ -51,42 +52,42 @@ pub struct Ready {
 }
 
 // A header: its event, of those that are taken; or the refusal.
-#[derive(Drop)]
+#[derive(Clone, Copy)]
 pub enum Header {
     Event(u16),
     Refused(u8),
 }
 
 // A server ready message.
-#[derive(Drop)]
+#[derive(Clone, Copy)]
 pub enum ReadVersion {
     Version(u32),
     Refused(u8),
 }
 
 // A client ready message.
-#[derive(Drop)]
+#[derive(Clone, Copy)]
 pub enum ReadReady {
     Ready(Ready),
     Refused(u8),
 }
 
 // A dismissal.
-#[derive(Drop)]
+#[derive(Clone, Copy)]
 pub enum ReadDismiss {
     Id(u8),
     Refused(u8),
 }
 
 // A field of two bytes.
-#[derive(Drop)]
+#[derive(Clone, Copy)]
 pub(crate) enum Two {
     Value(u16),
     Refused(u8),
 }
 
 // A field of four bytes.
-#[derive(Drop)]
+#[derive(Clone, Copy)]
 pub(crate) enum Four {
     Value(u32),
     Refused(u8),

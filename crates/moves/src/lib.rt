@@ -1,4 +1,5 @@
 // Document 01, "Contact states": what frames, cancels and dismissals do to the table of contacts, and the records that no message carries.
+#![tactic(auto)]
 mod records;
 mod table;
 

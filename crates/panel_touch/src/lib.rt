@@ -1,5 +1,6 @@
 // A touch message of a panel that is lent in parts: all is judged before it is written, and a refusal leaves the marks, the contacts and the output
 // as they were.
+#![tactic(auto)]
 mod judging;
 
 ghost use Rattle.contacts.specs.Ruling.{table_from};
@@ -12,7 +13,7 @@ use paper::Milliseconds;
 use recordings::Counted;
 
 // A frame of records: whether it conforms, how many contacts are active after it, and where it ends.
-#[derive(Drop)]
+#[derive(Clone, Copy)]
 pub(crate) struct Step {
     pub conforms: bool,
     pub active: u16,

@@ -1,4 +1,5 @@
 // A panel, whole and in parts: what arrives is taken, and client ready and dismiss are written, each so that the session host takes it.
+#![tactic(auto)]
 mod arriving;
 mod writers;
 
@@ -12,7 +13,7 @@ pub use writers::{refuse, write_dismiss_parts, write_ready_parts};
 
 // One panel. Each mark is off where it is 0; a fresh panel is all zeros.
 #[repr(C)]
-#[derive(Drop)]
+#[derive(Clone, Copy)]
 pub struct Panel {
     // Has taken a server ready.
     pub greeted: u8,
@@ -31,7 +32,7 @@ pub struct Panel {
 
 // A panel beside its contacts.
 #[repr(C)]
-#[derive(Drop)]
+#[derive(Clone, Copy)]
 pub struct PanelMarks {
     pub greeted: u8,
     pub ready: u8,
@@ -42,7 +43,7 @@ pub struct PanelMarks {
 
 // The marks after a message that arrived, and the refusal, 0 for none.
 #[repr(C)]
-#[derive(Drop)]
+#[derive(Clone, Copy)]
 pub struct Heard {
     pub marks: PanelMarks,
     pub refusal: u8,
@@ -50,7 +51,7 @@ pub struct Heard {
 
 // The marks after a call that writes, and what it wrote.
 #[repr(C)]
-#[derive(Drop)]
+#[derive(Clone, Copy)]
 pub struct Said {
     pub marks: PanelMarks,
     pub written: Written,

@@ -1,4 +1,5 @@
 // The names of documents 01 and 02: their refusals by number, and the two units of time.
+#![tactic(auto)]
 
 // Given when: under 6 bytes.
 pub const SHORT: u8 = 1;
@@ -39,10 +40,10 @@ pub const BAD_BATCH: u8 = 18;
 
 // encodeTime (000, 2.2.3.3): milliseconds.
 #[repr(C)]
-#[derive(Drop)]
+#[derive(Clone, Copy)]
 pub struct Milliseconds(pub u32);
 
 // frameOffset (000, 2.2.3.3.1): microseconds.
 #[repr(C)]
-#[derive(Drop)]
+#[derive(Clone, Copy)]
 pub struct Microseconds(pub u64);

@@ -1,4 +1,5 @@
 // The plain reading of touch messages, and the strict one.
+#![tactic(auto)]
 mod judge;
 mod passes;
 
@@ -10,7 +11,7 @@ use touch::CheckedBody;
 
 // What the plain reading answers: a refusal's number, 0 for none; encodeTime; and how many records it wrote.
 #[repr(C)]
-#[derive(Drop)]
+#[derive(Clone, Copy)]
 pub struct PlainAnswer {
     pub refusal: u8,
     pub time: Milliseconds,

@@ -1,5 +1,6 @@
 // The session host's receiver: the ready settings, 256 contacts, a mode, and the set of ids that is kept while ignoring. What it is and what it
 // answers; the calls that take messages stand in `receiving`.
+#![tactic(auto)]
 ghost use Rattle.std.specs.Prelude.{◌≡◌};
 ghost use Rattle.contacts.specs.Ruling.{arrays_from};
 ghost use Rattle.receiver.specs.Receive as spec;
@@ -10,7 +11,7 @@ use paper::Milliseconds;
 
 // One connection's receiver. Each mark is off where it is 0; a fresh receiver is all zeros.
 #[repr(C)]
-#[derive(Drop)]
+#[derive(Clone, Copy)]
 pub struct Receiver {
     // Has accepted a client ready.
     pub ready: u8,
@@ -32,7 +33,7 @@ pub const OUTPUT_MOST: usize = 49152;
 // What becomes of a message: a refusal's number, 0 for none; how many frames were injected, ignored and cancelled; encodeTime;
 // and how many records were written.
 #[repr(C)]
-#[derive(Drop)]
+#[derive(Clone, Copy)]
 pub struct Answer {
     pub refusal: u8,
     pub injected: u8,
@@ -43,7 +44,7 @@ pub struct Answer {
 }
 
 // The receiver after a message, and the answer.
-#[derive(Drop)]
+#[derive(Clone, Copy)]
 pub struct Received {
     pub receiver: Receiver,
     pub answer: Answer,
@@ -51,7 +52,7 @@ pub struct Received {
 
 // A receiver beside its contacts and its set.
 #[repr(C)]
-#[derive(Drop)]
+#[derive(Clone, Copy)]
 pub struct Marks {
     pub ready: u8,
     pub begun: u8,
@@ -61,7 +62,7 @@ pub struct Marks {
 
 // The marks after a message, and the answer.
 #[repr(C)]
-#[derive(Drop)]
+#[derive(Clone, Copy)]
 pub struct Turn {
     pub marks: Marks,
     pub answer: Answer,

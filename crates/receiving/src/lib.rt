@@ -1,4 +1,5 @@
 // The calls that take a message to a receiver: by value, and lent in parts.
+#![tactic(auto)]
 mod events;
 
 ghost use Rattle.contacts.specs.Ruling.{arrays_from};

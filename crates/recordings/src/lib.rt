@@ -1,5 +1,6 @@
 // The records of frames: whether they are well formed, each head followed by its count of contacts, how many frames they are, and
 // the contacts in them.
+#![tactic(auto)]
 ghost use Rattle.std.specs.Prelude.{◌≡◌};
 ghost use Rattle.recordings.specs.Answer.{counted_refusal};
 
@@ -10,7 +11,7 @@ pub use contact::read_contact;
 pub use judge::{contacts_after, count_frames};
 
 // How many frames a slice of records has, or the refusal of it.
-#[derive(Drop)]
+#[derive(Clone, Copy)]
 pub enum Counted {
     Frames(usize),
     Refused(u8),

@@ -1,4 +1,5 @@
 // The records that a fresh receiver writes for the entries of a bench file, raw, one after the other: a record file.
+#![tactic(auto)]
 ghost use Rattle.std.specs.Prelude.{◌*◌, ◌≤◌, length};
 ghost use Rattle.house.specs.Fields.{record_bytes};
 

@@ -3,7 +3,7 @@ use messages::Ready;
 use paper::Milliseconds;
 use slices::Written;
 
-#[derive(Drop)]
+#[derive(Clone, Copy)]
 pub(crate) enum Draft {
     // A header by itself: an event and a length.
     Header(u16, u32),

@@ -1,6 +1,7 @@
 // Each call that is lent output, with one byte too little and then with just enough: for each entry of a bench file the receiver, both plain
 // readings, and the writers of what the entry is. A line for each call: the entry's number, the call, how much was lent, and what it answered;
 // then what it wrote, or whether it kept all as it was.
+#![tactic(auto)]
 mod draft;
 mod lent;
 mod line;
@@ -15,7 +16,7 @@ use receiver::Receiver;
 use turns::{Stand, Turn};
 
 // The receiver after an entry, and where the page goes on.
-#[derive(Drop)]
+#[derive(Clone, Copy)]
 struct Told {
     receiver: Receiver,
     at: usize,

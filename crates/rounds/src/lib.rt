@@ -1,4 +1,5 @@
 // Rounds of a run over a bench file that is read: the window is filled, and the whole entries in it are fed to the receiver.
+#![tactic(auto)]
 ghost use Rattle.std.specs.Prelude.{◌≡◌};
 ghost use Rattle.rounds.specs.Rounds.{begun, GoesOn};
 
@@ -6,7 +7,7 @@ use feed::Window;
 use receiver::{OUTPUT_MOST, Receiver};
 
 // Where a run stands: the receiver, what is left of the input, and how many entries and records the last round had.
-#[derive(Drop)]
+#[derive(Clone, Copy)]
 pub struct Round {
     pub receiver: Receiver,
     pub window: Window,

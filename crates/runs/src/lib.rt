@@ -1,4 +1,5 @@
 // The frames of a message, run through the table of contacts one after the other.
+#![tactic(auto)]
 mod carry;
 mod step;
 
@@ -11,7 +12,7 @@ use paper::Microseconds;
 
 // What a run over frames has come to, beside the table and the set: the mode, how many contacts are active, what became of the frames, and
 // how many records they give.
-#[derive(Drop)]
+#[derive(Clone, Copy)]
 pub struct Run {
     pub running: bool,
     pub active: u16,
@@ -22,7 +23,7 @@ pub struct Run {
 }
 
 // A run after one more frame, and where the frame's contacts end.
-#[derive(Drop)]
+#[derive(Clone, Copy)]
 pub(crate) struct Stepped {
     pub run: Run,
     pub end: usize,

@@ -1,4 +1,5 @@
 // The panel's sending side, by value: a whole panel is taken apart, and its parts are lent to the call that does the work.
+#![tactic(auto)]
 ghost use Rattle.std.specs.Prelude.{◌≡◌};
 ghost use Rattle.contacts.specs.Ruling.{table_from};
 ghost use Rattle.panels.specs.Panel.{panel_marks, panel_of_parts, ready_sending, touch_sending, dismiss_sending, Takes, Sends};
@@ -9,14 +10,14 @@ use paper::Milliseconds;
 use slices::Written;
 
 // The panel after a message that arrived, and the refusal, 0 for none.
-#[derive(Drop)]
+#[derive(Clone, Copy)]
 pub struct Arrived {
     pub panel: Panel,
     pub refusal: u8,
 }
 
 // The panel after a call that writes, and what it wrote.
-#[derive(Drop)]
+#[derive(Clone, Copy)]
 pub struct Outgoing {
     pub panel: Panel,
     pub written: Written,

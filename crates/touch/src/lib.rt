@@ -1,4 +1,5 @@
 // The touch message (000, 2.2.3.3): its contacts, read field by field, and what its readers answer.
+#![tactic(auto)]
 mod contact;
 mod parts;
 
@@ -10,7 +11,7 @@ use framing::BodyHead;
 use house::{Contact, Head, Point, Sides};
 
 // The optional fields of a contact; those that are absent are 0.
-#[derive(Drop)]
+#[derive(Clone, Copy)]
 pub(crate) struct Optional {
     pub sides: Sides,
     pub orientation: u16,
@@ -18,51 +19,51 @@ pub(crate) struct Optional {
 }
 
 // What the readers answer: a value and how many bytes it takes, or a refusal's number.
-#[derive(Drop)]
+#[derive(Clone, Copy)]
 pub(crate) enum ReadPoint {
     Value(Point, usize),
     Refused(u8),
 }
 
-#[derive(Drop)]
+#[derive(Clone, Copy)]
 pub(crate) enum ReadSides {
     Value(Sides, usize),
     Refused(u8),
 }
 
-#[derive(Drop)]
+#[derive(Clone, Copy)]
 pub(crate) enum ReadOptional {
     Value(Optional, usize),
     Refused(u8),
 }
 
-#[derive(Drop)]
+#[derive(Clone, Copy)]
 pub enum ReadContact {
     Value(Contact, usize),
     Refused(u8),
 }
 
-#[derive(Drop)]
+#[derive(Clone, Copy)]
 pub enum ReadHead {
     Value(Head, usize),
     Refused(u8),
 }
 
-#[derive(Drop)]
+#[derive(Clone, Copy)]
 pub enum ReadTouchHead {
     Value(BodyHead, usize),
     Refused(u8),
 }
 
 // Where something ends, or the refusal of it.
-#[derive(Drop)]
+#[derive(Clone, Copy)]
 pub enum End {
     At(usize),
     Refused(u8),
 }
 
 // A whole body: what stands before its frames and where they begin, or the first fault.
-#[derive(Drop)]
+#[derive(Clone, Copy)]
 pub enum CheckedBody {
     Body(BodyHead, usize),
     Refused(u8),

@@ -1,11 +1,12 @@
 // A run over the entries of standard input that prints a line for each: what the programs that do so share.
+#![tactic(auto)]
 ghost use Rattle.std.specs.Prelude.{◌≡◌};
 ghost use Rattle.turns.specs.Turns.{begun, following, Turns, EndsLine};
 
 use feed::{Next, Window};
 
 // Where a run stands: what is left of the input, where the page goes on, and the number of the entry.
-#[derive(Drop)]
+#[derive(Clone, Copy)]
 pub struct Stand {
     pub window: Window,
     pub at: usize,
@@ -13,7 +14,7 @@ pub struct Stand {
 }
 
 // What comes next.
-#[derive(Drop)]
+#[derive(Clone, Copy)]
 pub enum Turn {
     // An entry, whose line is begun: where its bytes are, from and to, and where the run stands.
     Entry(usize, usize, Stand),

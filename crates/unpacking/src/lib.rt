@@ -1,4 +1,5 @@
 // Unpacking: house records, read.
+#![tactic(auto)]
 ghost use Rattle.std.specs.Prelude.{◌≡◌};
 ghost use Rattle.house.specs.Layout.{record_of, spare_zero};
 

@@ -1,6 +1,7 @@
 // Runs the integers and the house records over vectors from standard input, one line for each:
 // r an integer read in its only form, a in any form, w an integer written, h a head written, H a head of a count in two bytes written,
 // c a contact written, d a record read.
+#![tactic(auto)]
 mod parse;
 mod print;
 mod records;

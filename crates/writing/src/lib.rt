@@ -1,4 +1,5 @@
 // The touch writer.
+#![tactic(auto)]
 mod contact;
 mod lengths;
 mod message;

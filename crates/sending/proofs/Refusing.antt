@@ -51,12 +51,12 @@ body-tame : (p : Panel) (e : ℕ) (b : List ℕ) → reader.Tame Arriving (body_
 unfolding one_of
 body-tame p e b =
     reader.by-test Arriving (eqb e server_ready) _ _
-    (reader.and_then Arriving (whole version trailing b) _ (reader.whole-tame Arriving version trailing refl (reader.such-tame Arriving _ version_listed bad_field refl (reader.little-tame Arriving refl 4)) b) (λ v t. tt))
-    (reader.and_then Arriving (whole nothing trailing b) _ (reader.whole-tame Arriving nothing trailing refl (reader.done-tame Arriving tt) b) (λ u t. tt))
+    (reader.and-then Arriving (whole version trailing b) _ (reader.whole-tame Arriving version trailing refl (reader.such-tame Arriving _ version_listed bad_field refl (reader.little-tame Arriving refl 4)) b) (λ v t. tt))
+    (reader.and-then Arriving (whole nothing trailing b) _ (reader.whole-tame Arriving nothing trailing refl (reader.done-tame Arriving tt) b) (λ u t. tt))
 
 arrival-tame : (p : Panel) (l : List ℕ) → reader.Tame Arriving (arrival p l)
 unfolding arrival
-arrival-tame p l = reader.and_then Arriving (headed (awaited p) l) (body_arrival p) (headed-tame (awaited p) l) (body-tame p)
+arrival-tame p l = reader.and-then Arriving (headed (awaited p) l) (body_arrival p) (headed-tame (awaited p) l) (body-tame p)
 
 take-refuses : (p q : Panel) (message : List ℕ) (refusal : ℕ) → Takes p message q refusal → (refusal ≡ none → ⊥) → Untaken p q refusal
 take-refuses p q message n c u = go (arrival p message) refl (arrival-tame p message)

@@ -1,0 +1,10 @@
+-- `entries::numbers::join_two` meets its contract.
+-- Assumes nothing.
+use native.Mathlib.Omega.{arith}
+use borrow.Author.Rules.{rules}
+use Rattle.digits.specs.Digits.{joined}
+use Rattle.entries.proofs.numbers.join_two.Goals as goal
+
+pub returns : goal.returns
+unfolding joined
+returns c = omega arith

@@ -24,7 +24,7 @@ returns-then-file-n c =
 
 pub returns : goal.returns
 unfolding front_of
-returns-then-file-lt2 c =
+returns c =
     let l = c.args.file.now in
     let a : 2 ≤ length l = c.if-file-lt2.false in
     let e : c.length_of-n.result ≡ length_at l = c.length_of-n.ensures in

@@ -21,7 +21,7 @@ loop-i-preserved c =
     (omega arith, simp length-set (omega arith), simp length-set (omega arith), rw l.invariant.3 step)
 
 pub returns : goal.returns
-returns-then-out-source c =
+returns c =
     let a = c.args in
     let l = c.loop-i in
     let n : length a.source.now ≡ l.i = omega arith in

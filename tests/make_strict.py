@@ -1,4 +1,7 @@
-"""Writes OUTDIR/stdin and OUTDIR/stdout for the program 'strict': the input of 'plain', read strictly."""
+"""Writes OUTDIR/stdin and OUTDIR/stdout for the program 'strict': the input of 'plain', read strictly.
+
+Behind it is an entry that is cut inside its two length bytes; the input of 'plain' ends whole.
+"""
 
 import corpus
 import make_plain
@@ -7,7 +10,7 @@ from reference import programs
 
 def main():
     directory = corpus.output_directory()
-    stdin = corpus.joined(make_plain.all_messages())
+    stdin = corpus.joined(make_plain.all_messages(), b"\x00")
     stdout = programs.strict(stdin)
     corpus.write_files(directory, {"stdin": stdin, "stdout": stdout})
     corpus.report_refusals(stdout)

@@ -1546,7 +1546,7 @@ def check_less_room(rng, keeper, message, enough):
     return receiver.receive(keeper, message, bytearray(enough))[0]
 
 
-# How the kept corpora end: with a whole entry, but for some histories: they end inside one, and 'cut' is printed last.
+# How the kept corpora end: inside an entry, so that a program prints 'cut' last, or with a whole one.
 
 CRATES = Path(__file__).resolve().parent.parent / "crates"
 
@@ -1560,10 +1560,10 @@ WHOLE = (
     "records",
     "rooms",
     "sent",
-    "strict",
     "vectors",
     "writer",
 )
+CUT = ("strict",)
 CUT_HISTORIES = (
     "example-cut.bench",
     "example-half-length.bench",
@@ -1574,11 +1574,14 @@ CUT_HISTORIES = (
 
 
 def check_ends():
-    for name in WHOLE:
-        stdout = (CRATES / name / "stdout").read_bytes()
-        same(f"{name} is cut", entries.split(input_of(name))[1], False)
-        same(f"{name} has a cut line", any(map(says_cut, stdout.splitlines())), False)
-    same("the input of strict", input_of("strict"), input_of("plain"))
+    for name in WHOLE + CUT:
+        stdin, stdout = ((CRATES / name / each).read_bytes() for each in ("stdin", "stdout"))
+        payloads, cut = entries.split(stdin)
+        same(f"{name} is cut", cut, name in CUT)
+        same(f"{name} has a cut line", any(map(says_cut, stdout.splitlines())), name in CUT)
+        if cut:
+            same(f"{name} ends", stdout.splitlines()[-1], b"%d cut" % (len(payloads) + 1))
+    same("the input of strict", input_of("strict"), input_of("plain") + b"\0")
     same("the input of records", input_of("records"), input_of("bench"))
     check_ends_of_histories()
 

@@ -41,13 +41,11 @@ module _ (b : Stand) (most : ℕ) (s₀ s p₀ p : List ℕ) (place at : ℕ) (t
         page = ap (λ (x : Placed). x.page) e;
       }
 
-  pub turned-cut : HandsOut b.window Next.Cut s₀ s → Added (decimal b.number ∷ cut_word ∷ []) place at p₀ p → Turns b most s₀ s p₀ p (Turn.Over at)
-  turned-cut h a =
-      let e = added-there (decimal b.number ∷ cut_word ∷ []) a in
-      record { next = Next.Cut; read = h; turn = ap (λ (x : Placed). Turn.Over x.at) e; page = ap (λ (x : Placed). x.page) e }
+  pub turned-cut : HandsOut b.window Next.Cut s₀ s → Added (decimal b.number ∷ cut_word ∷ []) place at p₀ p → Turns b most s₀ s p₀ p Turn.Over
+  turned-cut h a = record { next = Next.Cut; read = h; turn = refl; page = ap (λ (x : Placed). x.page) (added-there (decimal b.number ∷ cut_word ∷ []) a) }
 
-pub turned-end : (b : Stand) (most : ℕ) (s₀ s p : List ℕ) (place : ℕ) → place ≡ turned_to most b.at p → HandsOut b.window Next.End s₀ s → Turns b most s₀ s p p (Turn.Over place)
-turned-end b most s₀ s p place t h = record { next = Next.End; read = h; turn = ap (λ (k : ℕ). Turn.Over k) t; page = refl }
+pub turned-end : (b : Stand) (most : ℕ) (s₀ s p : List ℕ) → HandsOut b.window Next.End s₀ s → Turns b most s₀ s p p Turn.Over
+turned-end b most s₀ s p h = record { next = Next.End; read = h; turn = refl; page = refl }
 
 -- ---- what a caller needs
 

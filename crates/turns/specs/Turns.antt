@@ -25,19 +25,15 @@ begun_at b most page = record { at = turned_to most b.at page; page = page }
 abbrev pub numbered : Stand → ℕ → List ℕ → Placed
 numbered b most page = add_to (decimal b.number) (begun_at b most page)
 
--- .. or the last line, where one is cut
-abbrev pub cut_off : Stand → ℕ → List ℕ → Placed
-cut_off b most page = add_all (decimal b.number ∷ cut_word ∷ []) (begun_at b most page)
-
--- at the end of the input the page is printed up to where it is written
 abbrev pub turn_of : Stand → ℕ → Next → List ℕ → Turn
 turn_of b most (Next.Entry from n rest) page = Turn.Entry from (from + n) (record { window = rest; at = (numbered b most page).at; number = b.number })
-turn_of b most Next.Cut page = Turn.Over (cut_off b most page).at
-turn_of b most Next.End page = Turn.Over (begun_at b most page).at
+turn_of b most Next.Cut page = Turn.Over
+turn_of b most Next.End page = Turn.Over
 
+-- the number of an entry, and a last line where one is cut
 abbrev pub page_of : Stand → ℕ → Next → List ℕ → List ℕ
 page_of b most (Next.Entry from n rest) page = (numbered b most page).page
-page_of b most Next.Cut page = (cut_off b most page).page
+page_of b most Next.Cut page = (add_all (decimal b.number ∷ cut_word ∷ []) (begun_at b most page)).page
 page_of b most Next.End page = page
 
 -- THE CONTRACT of a turn: the space held s₀ and holds s, the page p₀ and p

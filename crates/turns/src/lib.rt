@@ -18,8 +18,8 @@ pub struct Stand {
 pub enum Turn {
     // An entry, whose line is begun: where its bytes are, from and to, and where the run stands.
     Entry(usize, usize, Stand),
-    // The input is at its end, and all lines are printed: the page up to here.
-    Over(usize),
+    // The input is at its end, and all lines are printed.
+    Over,
 }
 
 pub fn begin() -> Stand
@@ -42,9 +42,9 @@ fn after(number: u64) -> u64
     number
 }
 
-// The next entry, with its number on the page; at the end of the input a last line where an entry is cut. Lines have at most so many bytes:
-// the page is printed first where these have no room.
-fn find_turn(space: &mut [u8], page: &mut [u8], stand: Stand, most: usize) -> Turn
+// The next entry, with its number on the page; at the end of the input all is printed, with a last line where an entry is cut. Lines have
+// at most so many bytes: the page is printed first where these have no room.
+pub fn next_turn(space: &mut [u8], page: &mut [u8], stand: Stand, most: usize) -> Turn
     ensures { Turns stand most space.old space.new page.old page.new result }
 {
     let window = stand.window;
@@ -59,25 +59,16 @@ fn find_turn(space: &mut [u8], page: &mut [u8], stand: Stand, most: usize) -> Tu
             };
             Turn::Entry(from, from + n, line)
         }
-        Next::Cut => Turn::Over(lines::add_cut(page, place, stand.number)),
-        Next::End => Turn::Over(place),
+        Next::Cut => {
+            let end = lines::add_cut(page, place, stand.number);
+            lines::write_out(page, end);
+            Turn::Over
+        }
+        Next::End => {
+            lines::write_out(page, place);
+            Turn::Over
+        }
     }
-}
-
-// Prints the page at the end of the input. It is told nothing but how far the page is written, so that a cut end is printed as a whole one is.
-fn print_last(page: &[u8], turn: Turn) {
-    if let Turn::Over(end) = turn {
-        lines::write_out(page, end);
-    }
-}
-
-// The next entry, with its number on the page; at the end of the input all is printed, with a last line where an entry is cut.
-pub fn next_turn(space: &mut [u8], page: &mut [u8], stand: Stand, most: usize) -> Turn
-    ensures { Turns stand most space.old space.new page.old page.new result }
-{
-    let turn = find_turn(space, page, stand, most);
-    print_last(page, turn);
-    turn
 }
 
 // Ends the entry's line, which was written up to a place.

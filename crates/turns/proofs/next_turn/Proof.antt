@@ -1,4 +1,4 @@
--- `turns::find_turn` meets its contract: what the next entry is decides the turn.
+-- `turns::next_turn` meets its contract: what the next entry is decides the turn.
 -- Assumes nothing.
 use borrow.Author.Rules.{rules}
 use Prim.Native.Nat.{◌^◌, ◌<◌}
@@ -7,8 +7,8 @@ use lib.ListN.{length}
 use Rattle.feed.specs.Within.{HandsOut}
 use Rattle.feed.specs.declared.Next.TheVariants as Next
 use Rattle.turns.proofs.Laws.{turned-entry, turned-cut, turned-end}
-use Rattle.turns.proofs.find_turn.Statement.{statement}
-use Rattle.turns.proofs.find_turn.Tie as tie
+use Rattle.turns.proofs.next_turn.Statement.{statement}
+use Rattle.turns.proofs.next_turn.Tie as tie
 
 -- the entry that was found
 found : (c : tie.After-known-told) →
@@ -32,8 +32,8 @@ enum-known-next c = search rules
 add-number-requires : tie.Need-add-number-requires
 add-number-requires c κs = search rules
 
-add-t17 : tie.Need-overflow-add-t17
-add-t17 c = let k = c.before.before.before.before in omega (arith, (found k).within.message, short k.before.before.before.before.before.before.before)
+add-t18 : tie.Need-overflow-add-t18
+add-t18 c = let k = c.before.before.before.before in omega (arith, (found k).within.message, short k.before.before.before.before.before.before.before)
 
 enum_told : tie.Need-enum-told
 enum_told c = search rules
@@ -41,8 +41,14 @@ enum_told c = search rules
 add-cut-requires : tie.Need-add-cut-requires
 add-cut-requires c κs = search rules
 
+write-out-requires : tie.Need-write-out-requires
+write-out-requires c κs = search rules
+
 enum-told-2 : tie.Need-enum-told-2
 enum-told-2 c = search rules
+
+write-out-requires-2 : tie.Need-write-out-requires-2
+write-out-requires-2 c κs = search rules
 
 same_length : tie.Need-same-length
 same_length c = search rules
@@ -63,7 +69,7 @@ same-length-4 c = search rules
 
 returns-2 : tie.Need-returns-2
 returns-2 c =
-    let a = c.before.before in
+    let a = c.before.before.before.before in
     let t = a.before.before.before.before in
     turned-cut _ _ _ _ _ _ _ _ t.turn-over.ensures (rw a.before.before.enum_told.given.1 at t.before.before.before.before.next-entry.ensures) a.add-cut.ensures
 
@@ -75,21 +81,23 @@ same-length-6 c = search rules
 
 returns-3 : tie.Need-returns-3
 returns-3 c =
-    let t = c.before.before in
-    turned-end _ _ _ _ _ _ t.turn-over.ensures (rw c.enum-told2.given.1 at t.before.before.before.before.next-entry.ensures)
+    let t = c.before.before.before.before in
+    turned-end _ _ _ _ _ (rw c.before.before.enum-told2.given.1 at t.before.before.before.before.next-entry.ensures)
 
-pub find-turn-spec : {M : Type 1} → statement M
-find-turn-spec =
+pub next-turn-spec : {M : Type 1} → statement M
+next-turn-spec =
     tie.close
     (tie.spec
     next-entry-requires
     turn-over-requires
     enum-known-next
     add-number-requires
-    add-t17
+    add-t18
     enum_told
     add-cut-requires
+    write-out-requires
     enum-told-2
+    write-out-requires-2
     same_length
     same-length-2
     returns

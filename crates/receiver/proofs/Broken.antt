@@ -6,7 +6,6 @@ use mathlib.Core.List.{List, [], ◌∷◌}
 use lib.IntN.{pos}
 use Rattle.states.specs.Table.{next, place_of, from, out}
 use Rattle.house.specs.declared.Record.{Record}
-use Rattle.house.specs.declared.Record.TheVariants as Record
 use Rattle.machine.specs.Table.{origin}
 use Rattle.tables.specs.Same.{same_number}
 use Rattle.contacts.specs.Touch.{bare_contact}

@@ -10,7 +10,7 @@ use lib.Dec.{leb}
 use lib.ListN.{length, drop}
 use Rattle.paper.specs.Refusals.{no_room}
 use Rattle.paper.specs.declared.Milliseconds.{Milliseconds}
-use Rattle.slices.specs.Writing.{bytes, given}
+use Rattle.slices.specs.Writing.{given}
 use Rattle.formats.specs.Format.{Got, got, bad}
 use Rattle.formats.proofs.Laws.{never}
 use Rattle.digits.specs.Digits.{Bytes}

@@ -12,7 +12,6 @@ use Rattle.house.specs.Records as house
 use Rattle.house.specs.declared.Point.{Point}
 use Rattle.house.specs.declared.Contact.{Contact}
 use Rattle.house.specs.declared.Record.{Record}
-use Rattle.house.specs.declared.Record.TheVariants as Record
 use Rattle.messages.specs.Header.{headed, touch, dismiss, write_message}
 use Rattle.messages.specs.declared.Ready.{Ready}
 use Rattle.framing.specs.Frame.{Frame}

@@ -1,6 +1,7 @@
 // The session host's receiver: the ready settings, 256 contacts, a mode, and the set of ids that is kept while ignoring. What it is and what it
 // answers; the calls that take messages stand in `receiving`.
 #![tactic(auto)]
+
 ghost use Rattle.std.specs.Prelude.{◌≡◌};
 ghost use Rattle.contacts.specs.Ruling.{arrays_from};
 ghost use Rattle.receiver.specs.Receive as spec;

@@ -4,12 +4,8 @@ use mathlib.Core.Path.{refl}
 use Rattle.machine.specs.Table.{resting}
 use Rattle.machine.specs.Held.{nobody}
 use Rattle.receiver.specs.Receive.{fresh}
-use Rattle.receiver.proofs.fresh.Statement.{statement}
-use Rattle.receiver.proofs.fresh.Tie as tie
+use Rattle.receiver.proofs.fresh.Goals as goal
 
-returns : tie.Need-returns
+pub returns : goal.returns
 unfolding fresh resting nobody
 returns c = refl
-
-pub fresh-spec : {M : Type 1} → statement M
-fresh-spec = tie.close (tie.spec returns)

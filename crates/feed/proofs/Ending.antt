@@ -13,7 +13,6 @@ use lib.Seq.{take_all}
 use Rattle.digits.specs.Digits.{Bytes}
 use Rattle.entries.specs.Entries.{length_at, front_of}
 use Rattle.entries.specs.declared.Front.{Front}
-use Rattle.entries.specs.declared.Front.TheVariants as Front
 use Rattle.entries.proofs.Laws.{whole-front}
 use Rattle.feed.specs.declared.Window.{Window}
 use Rattle.feed.specs.Within.{entry_most, Inside, bytes_in, FillsBy, Fills}

@@ -9,11 +9,9 @@ use lib.ListN.{length, drop, length-drop}
 use lib.Seq.{length-take-le}
 use Rattle.entries.specs.Entries.{front_of}
 use Rattle.entries.specs.declared.Front.{Front}
-use Rattle.entries.specs.declared.Front.TheVariants as Front
 use Rattle.entries.proofs.Laws.{front-inside}
 use Rattle.feed.specs.declared.Window.{Window}
 use Rattle.feed.specs.declared.Next.{Next}
-use Rattle.feed.specs.declared.Next.TheVariants as Next
 use Rattle.feed.specs.Within.{Inside, bytes_in, Within, front_next, handed_out}
 
 -- a window has as many bytes as there are between its ends

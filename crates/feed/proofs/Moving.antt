@@ -14,7 +14,6 @@ use lib.ListN.{length, get_or, set, take, drop, length-set, length-drop, take-ap
 use lib.Seq.{take-suc, take-suc-set, drop-set-lt, drop-drop, get_or-drop, take-take, take_at, length-take-le}
 use Rattle.entries.specs.Entries.{front_of}
 use Rattle.entries.specs.declared.Front.{Front}
-use Rattle.entries.specs.declared.Front.TheVariants as Front
 use Rattle.feed.specs.declared.Window.{Window}
 use Rattle.feed.specs.Within.{Inside, is_inside, bytes_in, Moves, ReadsOn, Fills}
 

@@ -7,7 +7,6 @@ use mathlib.Core.List.{List}
 use lib.ListN.{length}
 use Rattle.entries.specs.Entries.{front_of}
 use Rattle.entries.specs.declared.Front.{Front}
-use Rattle.entries.specs.declared.Front.TheVariants as Front
 use Rattle.feed.specs.declared.Window.{Window}
 use Rattle.feed.specs.declared.Next.{Next}
 use Rattle.feed.specs.Within.{is_inside, bytes_in, FillsBy, Fills, handed_out, HandsOut}

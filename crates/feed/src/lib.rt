@@ -1,5 +1,6 @@
 // The entries of a bench file that is read, through a lent space: a file of any size in constant memory.
 #![tactic(auto)]
+
 ghost use Rattle.std.specs.Prelude.{◌≡◌, ◌+◌, ◌≤◌, length};
 ghost use Rattle.entries.specs.Entries.{front_of};
 ghost use Rattle.feed.specs.Within.{Inside, bytes_in, Moves, ReadsOn, Fills, front_next, HandsOut};
@@ -8,6 +9,9 @@ use entries::Front;
 
 // The longest entry: two bytes of length, and the 65,535 that these can say. In less space it is never whole.
 pub const ENTRY_MOST: usize = 65537;
+
+// Standard input, as the system numbers it.
+pub const STANDARD_INPUT: i32 = 0;
 
 // How much space programs have: that, and nearly as much again to read ahead.
 pub const SPACE: usize = 131072;
@@ -107,7 +111,7 @@ fn entry_in(space: &[u8], window: Window) -> Next
 pub fn next_entry(space: &mut [u8], window: Window) -> Next
     ensures { HandsOut window result space.old space.new }
 {
-    let filled = fill(libc::STDIN_FILENO, space, window);
+    let filled = fill(STANDARD_INPUT, space, window);
     if filled.end <= filled.at {
         return Next::End;
     }

@@ -1,5 +1,6 @@
 // What both ends of the channel keep as marks, off where they are 0, and what they judge by them.
 #![tactic(auto)]
+
 ghost use Rattle.std.specs.Prelude.{◌≡◌};
 ghost use Rattle.framing.specs.Frame.{begun_by};
 ghost use Rattle.channel.specs.Marks.{untimed_by, judged_by};

@@ -1,5 +1,6 @@
 // Document 01, "Contact states": the table of eight flag values by three states.
 #![tactic(auto)]
+
 ghost use Rattle.std.specs.Prelude.{◌≡◌};
 ghost use Rattle.states.specs.Table.{table, place_of, listed, next};
 

@@ -21,7 +21,6 @@ use Rattle.contacts.specs.Ruling.{of_read, table_from, legal_in, stays_in, allow
 use Rattle.contacts.specs.declared.Survey.{Survey}
 use Rattle.contacts.specs.declared.Judged.{Judged}
 use Rattle.contacts.specs.declared.Ruling.{Ruling}
-use Rattle.contacts.specs.declared.Ruling.TheVariants as Ruling
 use Rattle.machine.proofs.Conforms.{in_table, both_left, every-both, every_true}
 use Rattle.contacts.proofs.Counting.{after-count}
 use Rattle.machine.proofs.Table.{resting-whole, resting-count, count-all}

@@ -14,7 +14,6 @@ use Rattle.contacts.specs.Touch.{touch_view}
 use Rattle.contacts.specs.declared.Survey.{Survey}
 use Rattle.contacts.specs.declared.Judged.{Judged}
 use Rattle.contacts.specs.declared.Ruling.{Ruling}
-use Rattle.contacts.specs.declared.Ruling.TheVariants as Ruling
 
 -- where contacts are read: in the records of frames, or in a message
 abbrev pub source : Bool → Format Contact

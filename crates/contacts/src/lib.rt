@@ -1,5 +1,6 @@
 // Document 01, "Contact states": the table of 256 contacts, and what becomes of a frame.
 #![tactic(auto)]
+
 mod counts;
 mod judging;
 mod rules;

@@ -24,7 +24,6 @@ use Rattle.touch.specs.Touch.{Touch, body, contact}
 use Rattle.touch.specs.Answer.{checked_got, checked_refusal, Checks}
 use Rattle.framing.specs.declared.BodyHead.{BodyHead}
 use Rattle.touch.specs.declared.CheckedBody.{CheckedBody}
-use Rattle.touch.specs.declared.CheckedBody.TheVariants as CheckedBody
 use Rattle.touch.proofs.Passes.{frame_by, Checked, checked}
 use Rattle.machine.specs.Table.{contacts}
 use Rattle.machine.specs.Machine.{Machine, Arrays, arrays_in, Counts, run_bytes}

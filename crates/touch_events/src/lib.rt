@@ -1,5 +1,6 @@
 // Touch messages: judged whole, run dry where their records might not fit, and then run.
 #![tactic(auto)]
+
 ghost use Rattle.std.specs.Prelude.{◌≡◌, cond, not};
 ghost use Rattle.contacts.specs.Ruling.{arrays_from};
 ghost use Rattle.channel.specs.Marks.{off, mark};

@@ -1,10 +1,14 @@
 // Lines of text on a lent page, so that a program writes many of them at once.
 #![tactic(auto)]
+
 ghost use Rattle.std.specs.Prelude.{◌≡◌, ◌<◌, [], ◌∷◌};
 ghost use Rattle.lines.specs.Page.{Added, turned_to, decimal, hex_of, hexes, space, cut_word, front_text, written_text};
 ghost use Rattle.io.specs.Digits.{hex_digit_ascii as glyphOf};
 
 use slices::Written;
+
+// Standard output, as the system numbers it.
+pub const STANDARD_OUTPUT: i32 = 1;
 
 // Adds text at a place of a page, and answers the place after it; where there is no room the page stays as it was.
 pub fn add_text(page: &mut [u8], at: usize, text: &[u8]) -> usize
@@ -117,7 +121,7 @@ pub fn write_out(page: &[u8], at: usize) -> usize
     ensures { result ≡ 0 }
 {
     if at <= page.len() {
-        io::write_all(libc::STDOUT_FILENO, &page[..at]);
+        io::write_all(STANDARD_OUTPUT, &page[..at]);
     }
     0
 }

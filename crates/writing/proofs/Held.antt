@@ -22,7 +22,7 @@ use Rattle.framing.specs.Frame.{Frame, head_of}
 use Rattle.fields.proofs.Laws.{taken-range}
 use Rattle.framing.specs.Format.{frame_format, frame_head_format}
 use Rattle.house.specs.Layout.{contacts_most}
-use Rattle.touch.specs.Touch.{point, sides, orientation, pressure, optional, contact, frame_head, frame}
+use Rattle.touch.specs.Touch.{point, sides, optional, contact, frame_head, frame}
 use Rattle.touch.proofs.Ranges.{contact-fits, contact-well, frame-holds}
 use Rattle.recordings.specs.Records.{contact_record, frame_records}
 

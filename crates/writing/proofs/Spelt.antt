@@ -17,14 +17,13 @@ use Rattle.fields.specs.Integers.{taken}
 use Rattle.house.specs.Layout.{record_of, head_bytes, contact_bytes, touched}
 use Rattle.house.specs.declared.Contact.{Contact}
 use Rattle.house.specs.declared.Record.{Record}
-use Rattle.house.specs.declared.Record.TheVariants as Record
 use Rattle.house.proofs.Round.{length-head, length-contact, record-of-head, record-of-contact}
 use Rattle.messages.specs.Header.{header, header_bytes, write_message}
 use Rattle.messages.specs.Header as event
 use Rattle.framing.specs.Frame.{Frame, head_of, contacts_bytes, frame_bytes, frames_bytes}
 use Rattle.framing.specs.Format.{body_format, frame_format}
 use Rattle.house.specs.Layout.{contacts_most}
-use Rattle.touch.specs.Touch.{contact, frame, touch, touch_record}
+use Rattle.touch.specs.Touch.{contact, frame, touch_record}
 use Rattle.recordings.specs.Records.{contact_record, frame_records, frames_in}
 use Rattle.writing.specs.TouchDraft.{message_of}
 use Rattle.spelling.specs.Spelling.{spelling}

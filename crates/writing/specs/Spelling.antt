@@ -4,7 +4,6 @@ use Rattle.fields.specs.Integers.{taken}
 use Rattle.house.specs.Fields.{record_bytes}
 use Rattle.house.specs.Layout.{record_of}
 use Rattle.house.specs.declared.Record.{Record}
-use Rattle.house.specs.declared.Record.TheVariants as Record
 use Rattle.paper.specs.declared.Milliseconds.{Milliseconds}
 use Rattle.touch.specs.Touch.{contact, frame_head, touch_head}
 use Rattle.spelling.specs.Spelling.{spelling}

@@ -1,5 +1,6 @@
 // The touch writer.
 #![tactic(auto)]
+
 mod contact;
 mod lengths;
 mod message;

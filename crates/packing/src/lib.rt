@@ -1,5 +1,6 @@
 // Packing: house records, written.
 #![tactic(auto)]
+
 ghost use Rattle.std.specs.Prelude.{◌≡◌};
 ghost use Rattle.paper.specs.Refusals.{none, no_room};
 ghost use Rattle.slices.specs.Writing.{bytes, refuse, answered, Writes};

@@ -1,5 +1,6 @@
 // The five integers of 000, 2.2.2, read in their only form or in any.
 #![tactic(auto)]
+
 mod common;
 mod found;
 mod lenient;

@@ -1,0 +1,44 @@
+-- `integers::found::join` meets its contract: v is head and the bytes passed.
+-- Assumes nothing.
+use Prim.Native.Nat.{◌*◌, ◌^◌, ◌<◌}
+use mathlib.Core.Path.{refl}
+use native.Mathlib.Numerals.{add-one}
+use native.Mathlib.Omega.{arith}
+use lib.Seq.{take-suc}
+use lib.ListN.{length, take, length-take}
+use Rattle.digits.specs.Digits.{joined, Bytes}
+use Rattle.digits.proofs.Laws.{bytes_take, joined_small, joined_snoc}
+use Rattle.integers.proofs.found.join.Goals as goal
+
+pub loop-i-init : goal.loop-i-init
+unfolding joined
+loop-i-init c = (omega arith, refl)
+
+pub overflow_mul-v : goal.overflow_mul-v
+overflow_mul-v c =
+    let small : c.loop-i.v < 128 * 256 ^ 6 =
+    let a = c.args in
+    let i = c.loop-i.i in
+    let h : Bytes a.bytes.now = λ j. (c.shared_slice_known-1.given j).fits in
+    rw c.loop-i.invariant.1
+    (joined_small 128 a.head 6 (take i a.bytes.now) (bytes_take i _ h) (omega arith)
+    (simp length-take (omega arith))) in
+    omega (arith, small)
+
+pub overflow_add-v : goal.overflow_add-v
+overflow_add-v c =
+    let small : c.loop-i.v < 128 * 256 ^ 6 =
+    let a = c.args in
+    let i = c.loop-i.i in
+    let h : Bytes a.bytes.now = λ j. (c.shared_slice_known-1.given j).fits in
+    rw c.loop-i.invariant.1
+    (joined_small 128 a.head 6 (take i a.bytes.now) (bytes_take i _ h) (omega arith)
+    (simp length-take (omega arith))) in
+    omega (arith, small, c.shared_slice_known-1.given c.loop-i.i)
+
+pub loop-i-preserved : goal.loop-i-preserved
+loop-i-preserved c =
+    let i = c.loop-i.i in
+    let bytes = c.args.bytes.now in
+    let inside : i < length bytes = omega arith in
+    (omega arith, rw (add-one, take-suc bytes i 0 inside, joined_snoc) (omega arith))

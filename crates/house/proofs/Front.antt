@@ -12,7 +12,6 @@ use borrow.Author.Tests.{leb-true, leb-false, eqb-true, eqb-false, le-leb, eq-eq
 use Rattle.house.specs.Fields.{record_bytes}
 use Rattle.house.specs.Layout.{kind_of, head_in, contact_of, head_spare, contact_spare, record_of, spare_zero}
 use Rattle.house.specs.declared.Record.{Record}
-use Rattle.house.specs.declared.Record.TheVariants as Record
 
 pub data Front : List ℕ → Type 0 where
   short : {l : List ℕ} → length l < 21 → Front l

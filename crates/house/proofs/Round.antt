@@ -20,7 +20,6 @@ use Rattle.house.specs.Fits.{HeadFits, ContactFits}
 use Rattle.house.specs.declared.Head.{Head}
 use Rattle.house.specs.declared.Contact.{Contact}
 use Rattle.house.specs.declared.Record.{Record}
-use Rattle.house.specs.declared.Record.TheVariants as Record
 use Rattle.house.proofs.Fields.{Fit, field_fit, field-again, length-packed, unpacked-packed, packed-unpacked}
 use Rattle.house.proofs.Twos.{twos-lt, of-twos, twos-of, of-holds}
 use Rattle.house.proofs.Front.{Front, short, front, record-head, record-contact, spare-head, spare-contact, front-is, front_long}

@@ -6,7 +6,6 @@ use Rattle.house.specs.Twos.{twos_of, of_twos}
 use Rattle.house.specs.declared.Head.{Head}
 use Rattle.house.specs.declared.Contact.{Contact}
 use Rattle.house.specs.declared.Record.{Record}
-use Rattle.house.specs.declared.Record.TheVariants as Record
 
 -- ---- kinds
 

@@ -1,5 +1,6 @@
 // House records: 21 bytes, bit-packed, most significant bit first. What they are; `packing` writes them and `unpacking` reads them.
 #![tactic(auto)]
+
 ghost use Rattle.std.specs.Prelude.{◌≡◌, ◌%◌, ◌^◌};
 
 use paper::Microseconds;

@@ -11,7 +11,7 @@ use Rattle.house.specs.Fits.{no_sides}
 use Rattle.well_formed.specs.WellFormed.{has}
 use Rattle.framing.proofs.Laws.{body-law}
 use Rattle.touch.specs.Limits.{touch_limits}
-use Rattle.touch.specs.Touch.{optional_of, present, point, flags, sides, orientation, pressure, optional, contact, touch}
+use Rattle.touch.specs.Touch.{optional_of, point, sides, orientation, pressure, optional, contact, touch}
 
 module _ {X : Type 0} (i : Integers) (h : IntegersLaw X i) where
   pub point-law : Law X (point i)

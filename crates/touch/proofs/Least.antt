@@ -6,7 +6,7 @@ use Rattle.fields.specs.Integers.{Integers}
 use Rattle.fields.proofs.Least.{IntegersLeast}
 use Rattle.house.specs.Fits.{no_sides}
 use Rattle.well_formed.specs.WellFormed.{has}
-use Rattle.touch.specs.Touch.{optional_of, present, point, flags, sides, orientation, pressure, optional, contact}
+use Rattle.touch.specs.Touch.{optional_of, point, sides, orientation, pressure, optional, contact}
 
 module _ (i : Integers) (h : IntegersLeast i) where
   takes-point : Takes 2 (point i)

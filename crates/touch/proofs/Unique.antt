@@ -10,7 +10,6 @@ use Rattle.formats.specs.Answer.{Answers}
 use Rattle.fields.specs.Integers.{Integers}
 use Rattle.house.specs.declared.Contact.{Contact}
 use Rattle.touch.specs.declared.ReadContact.{ReadContact}
-use Rattle.touch.specs.declared.ReadContact.TheVariants as ReadContact
 use Rattle.touch.specs.Touch.{contact}
 use Rattle.touch.specs.Answer.{contact_got, contact_length}
 

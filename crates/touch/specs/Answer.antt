@@ -11,21 +11,13 @@ use Rattle.house.specs.declared.Contact.{Contact}
 use Rattle.house.specs.declared.Head.{Head}
 use Rattle.touch.specs.declared.Optional.{Optional}
 use Rattle.touch.specs.declared.ReadPoint.{ReadPoint}
-use Rattle.touch.specs.declared.ReadPoint.TheVariants as ReadPoint
 use Rattle.touch.specs.declared.ReadSides.{ReadSides}
-use Rattle.touch.specs.declared.ReadSides.TheVariants as ReadSides
 use Rattle.touch.specs.declared.ReadOptional.{ReadOptional}
-use Rattle.touch.specs.declared.ReadOptional.TheVariants as ReadOptional
 use Rattle.touch.specs.declared.ReadContact.{ReadContact}
-use Rattle.touch.specs.declared.ReadContact.TheVariants as ReadContact
 use Rattle.touch.specs.declared.ReadHead.{ReadHead}
-use Rattle.touch.specs.declared.ReadHead.TheVariants as ReadHead
 use Rattle.touch.specs.declared.ReadTouchHead.{ReadTouchHead}
-use Rattle.touch.specs.declared.ReadTouchHead.TheVariants as ReadTouchHead
 use Rattle.touch.specs.declared.End.{End}
-use Rattle.touch.specs.declared.End.TheVariants as End
 use Rattle.touch.specs.declared.CheckedBody.{CheckedBody}
-use Rattle.touch.specs.declared.CheckedBody.TheVariants as CheckedBody
 
 abbrev pub point_got : ReadPoint → List ℕ → Got Point
 point_got (ReadPoint.Value a n) l = got a (drop n l)

@@ -1,5 +1,6 @@
 // The touch message (000, 2.2.3.3): its contacts, read field by field, and what its readers answer.
 #![tactic(auto)]
+
 mod contact;
 mod parts;
 

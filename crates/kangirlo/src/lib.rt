@@ -1,5 +1,6 @@
 // The C face: each call of include/kangirlo.h, a thin function over the call that does the work, with that call's contract.
 #![tactic(auto)]
+
 ghost use Rattle.std.specs.Prelude.{◌≡◌};
 ghost use Rattle.slices.specs.Writing.{Writes};
 ghost use Rattle.messages.specs.Bodies.{server_ready_draft, client_ready_draft, suspend_draft, resume_draft, dismiss_draft};
@@ -19,20 +20,14 @@ use receiver::{Answer, Marks, Receiver, Turn};
 use slices::Written;
 
 // A receiver that has accepted nothing.
-#[unsafe(no_mangle)]
-pub extern "C" fn kangirlo_fresh() -> Receiver
+pub fn kangirlo_fresh() -> Receiver
     ensures { result ≡ fresh }
 {
     receiver::fresh()
 }
 
 // A message, judged and carried out on a receiver where it stands, or refused with nothing changed.
-#[unsafe(no_mangle)]
-pub extern "C" fn kangirlo_receive(
-    receiver: &mut Receiver,
-    message: &[u8],
-    output: &mut [u8],
-) -> Answer
+pub fn kangirlo_receive(receiver: &mut Receiver, message: &[u8], output: &mut [u8]) -> Answer
     ensures { Receives receiver.old message.now output.old receiver.new result output.new }
 {
     let received = receiving::receive(*receiver, message, output);
@@ -41,8 +36,7 @@ pub extern "C" fn kangirlo_receive(
 }
 
 // All entries of a buffer, fed to a receiver where it stands, each with the output that is left; or all refused with nothing changed.
-#[unsafe(no_mangle)]
-pub extern "C" fn kangirlo_receive_all(
+pub fn kangirlo_receive_all(
     receiver: &mut Receiver,
     buffer: &[u8],
     answers: &mut [u32],
@@ -56,8 +50,7 @@ pub extern "C" fn kangirlo_receive_all(
 }
 
 // A message to a receiver that is lent in parts, its marks by value: none of its contacts is copied. Answers the marks after it, too.
-#[unsafe(no_mangle)]
-pub extern "C" fn kangirlo_receive_parts(
+pub fn kangirlo_receive_parts(
     marks: Marks,
     message: &[u8],
     output: &mut [u8],
@@ -72,8 +65,7 @@ pub extern "C" fn kangirlo_receive_parts(
 }
 
 // All entries of a buffer to a receiver that is lent in parts.
-#[unsafe(no_mangle)]
-pub extern "C" fn kangirlo_receive_all_parts(
+pub fn kangirlo_receive_all_parts(
     marks: Marks,
     buffer: &[u8],
     answers: &mut [u32],
@@ -89,30 +81,26 @@ pub extern "C" fn kangirlo_receive_all_parts(
 }
 
 // A touch message read by itself.
-#[unsafe(no_mangle)]
-pub extern "C" fn kangirlo_plain(message: &[u8], output: &mut [u8]) -> PlainAnswer
+pub fn kangirlo_plain(message: &[u8], output: &mut [u8]) -> PlainAnswer
     ensures { ReadsPlainly message.now result output.old output.new }
 {
     reading::plain(message, output)
 }
 
 // The same with 6 for an integer that is not in its only form.
-#[unsafe(no_mangle)]
-pub extern "C" fn kangirlo_plain_strictly(message: &[u8], output: &mut [u8]) -> PlainAnswer
+pub fn kangirlo_plain_strictly(message: &[u8], output: &mut [u8]) -> PlainAnswer
     ensures { ReadsStrictly message.now result output.old output.new }
 {
     reading::plain_strictly(message, output)
 }
 
-#[unsafe(no_mangle)]
-pub extern "C" fn kangirlo_write_server_ready(output: &mut [u8], version: u32) -> Written
+pub fn kangirlo_write_server_ready(output: &mut [u8], version: u32) -> Written
     ensures { Writes (server_ready_draft version) result output.old output.new }
 {
     message_writers::write_server_ready(output, version)
 }
 
-#[unsafe(no_mangle)]
-pub extern "C" fn kangirlo_write_client_ready(
+pub fn kangirlo_write_client_ready(
     output: &mut [u8],
     flags: u32,
     version: u32,
@@ -128,41 +116,32 @@ pub extern "C" fn kangirlo_write_client_ready(
     message_writers::write_client_ready(output, ready)
 }
 
-#[unsafe(no_mangle)]
-pub extern "C" fn kangirlo_write_touch(
-    output: &mut [u8],
-    time: Milliseconds,
-    records: &[u8],
-) -> Written
+pub fn kangirlo_write_touch(output: &mut [u8], time: Milliseconds, records: &[u8]) -> Written
     ensures { Writes (touch_draft time records.now) result output.old output.new }
 {
     writing::write_touch(output, time, records)
 }
 
-#[unsafe(no_mangle)]
-pub extern "C" fn kangirlo_write_suspend(output: &mut [u8]) -> Written
+pub fn kangirlo_write_suspend(output: &mut [u8]) -> Written
     ensures { Writes suspend_draft result output.old output.new }
 {
     message_writers::write_suspend(output)
 }
 
-#[unsafe(no_mangle)]
-pub extern "C" fn kangirlo_write_resume(output: &mut [u8]) -> Written
+pub fn kangirlo_write_resume(output: &mut [u8]) -> Written
     ensures { Writes resume_draft result output.old output.new }
 {
     message_writers::write_resume(output)
 }
 
-#[unsafe(no_mangle)]
-pub extern "C" fn kangirlo_write_dismiss(output: &mut [u8], id: u8) -> Written
+pub fn kangirlo_write_dismiss(output: &mut [u8], id: u8) -> Written
     ensures { Writes (dismiss_draft id) result output.old output.new }
 {
     message_writers::write_dismiss(output, id)
 }
 
 // The record at the front of a slice of records, where it is whole and well formed.
-#[unsafe(no_mangle)]
-pub extern "C" fn kangirlo_read_record(records: &[u8]) -> FlatRecord
+pub fn kangirlo_read_record(records: &[u8]) -> FlatRecord
     ensures { result ≡ flat records.now }
 {
     flat_records::read_flat(records)

@@ -1,5 +1,6 @@
 // Document 01, "Contact states": what frames, cancels and dismissals do to the table of contacts, and the records that no message carries.
 #![tactic(auto)]
+
 mod records;
 mod table;
 

@@ -9,7 +9,6 @@ use borrow.Author.Tests.{ne_eqb, eqb-true, leb-true, leb-false}
 use lib.Dec.{eqb, leb}
 use lib.ListN.{length, drop}
 use Rattle.paper.specs.Refusals.{trailing}
-use Rattle.slices.specs.Writing.{bytes}
 use Rattle.slices.specs.declared.Written.{Written}
 use Rattle.slices.proofs.Laws.{given-room, given-none}
 use Rattle.formats.specs.Format.{got, bad, whole, byte}

@@ -1,5 +1,6 @@
 // The calls that take a message to a receiver: by value, and lent in parts.
 #![tactic(auto)]
+
 mod events;
 
 ghost use Rattle.contacts.specs.Ruling.{arrays_from};

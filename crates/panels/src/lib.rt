@@ -1,5 +1,6 @@
 // A panel, whole and in parts: what arrives is taken, and client ready and dismiss are written, each so that the session host takes it.
 #![tactic(auto)]
+
 mod arriving;
 mod writers;
 

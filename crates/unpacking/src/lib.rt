@@ -1,5 +1,6 @@
 // Unpacking: house records, read.
 #![tactic(auto)]
+
 ghost use Rattle.std.specs.Prelude.{◌≡◌};
 ghost use Rattle.house.specs.Layout.{record_of, spare_zero};
 

@@ -9,9 +9,7 @@ use lib.Dec.{eqb}
 use lib.Pow.{mod-pow-add}
 use Rattle.house.specs.Fields.{unpacked}
 use Rattle.house.specs.Layout.{head_spare}
-use borrow.Author.Rules.{rules}
-use Rattle.unpacking.proofs.read.is_head_spare_zero.Statement.{statement}
-use Rattle.unpacking.proofs.read.is_head_spare_zero.Tie as tie
+use Rattle.unpacking.proofs.read.is_head_spare_zero.Goals as goal
 
 -- the low 96 bits by their parts
 parts : (n : ℕ) → n / 2 ^ 0 % 2 ^ 96 ≡ (n / 2 ^ 40 % 2 ^ 56) * 2 ^ 40 + n / 2 ^ 0 % 2 ^ 40
@@ -25,19 +23,10 @@ high n h e z q =
     let t : h * 2 ^ 40 + n / 2 ^ 0 % 2 ^ 40 ≡ 0 = rw e (sym (parts n) ∙ q) in
     z (omega (arith, t))
 
-get-requires : tie.Need-get-requires
-get-requires c κs = search rules
-
-get-requires-2 : tie.Need-get-requires-2
-get-requires-2 c κs = search rules
-
-returns : tie.Need-returns
+pub returns-then-high-eq0 : goal.returns-then-high-eq0
 unfolding unpacked head_spare
-returns c = ap (λ (k : ℕ). eqb k 0) (low _ _ _ c.before.before.get.ensures.0 c.before.get2.ensures.0 c.if1.true)
+returns-then-high-eq0 c = ap (λ (k : ℕ). eqb k 0) (low _ _ _ c.get-high.ensures.0 c.get-low.ensures.0 c.if-high-eq0.true)
 
-returns-2 : tie.Need-returns-2
+pub returns-else-high-eq0 : goal.returns-else-high-eq0
 unfolding unpacked head_spare
-returns-2 c = sym (ne_eqb _ 0 (high _ _ c.before.before.get.ensures.0 c.if1.false))
-
-pub is-head-spare-zero-spec : {M : Type 1} → statement M
-is-head-spare-zero-spec = tie.close (tie.spec get-requires get-requires-2 returns returns-2)
+returns-else-high-eq0 c = sym (ne_eqb _ 0 (high _ _ c.get-high.ensures.0 c.if-high-eq0.false))

@@ -2,6 +2,7 @@
 // value, with that call's contract. The panel is updated where it stands; beside each call stands one that is lent the panel in parts, the
 // marks by value and the contacts where they stand.
 #![tactic(auto)]
+
 ghost use Rattle.std.specs.Prelude.{◌≡◌};
 ghost use Rattle.machine.specs.Table.{Table};
 ghost use Rattle.contacts.specs.Ruling.{table_from};
@@ -12,16 +13,14 @@ use paper::Milliseconds;
 use slices::Written;
 
 // A panel that has taken and written nothing.
-#[unsafe(no_mangle)]
-pub extern "C" fn kangirlo_panel_fresh() -> Panel
+pub fn kangirlo_panel_fresh() -> Panel
     ensures { result ≡ fresh_panel }
 {
     panels::fresh()
 }
 
 // A message that arrived: taken, or refused with nothing changed. Answers the refusal, 0 for none.
-#[unsafe(no_mangle)]
-pub extern "C" fn kangirlo_panel_take(panel: &mut Panel, message: &[u8]) -> u8
+pub fn kangirlo_panel_take(panel: &mut Panel, message: &[u8]) -> u8
     ensures { Takes panel.old message.now panel.new result }
 {
     let arrived = sending::take(*panel, message);
@@ -30,8 +29,7 @@ pub extern "C" fn kangirlo_panel_take(panel: &mut Panel, message: &[u8]) -> u8
 }
 
 // Client ready.
-#[unsafe(no_mangle)]
-pub extern "C" fn kangirlo_panel_write_ready(
+pub fn kangirlo_panel_write_ready(
     panel: &mut Panel,
     output: &mut [u8],
     flags: u32,
@@ -46,8 +44,7 @@ pub extern "C" fn kangirlo_panel_write_ready(
 }
 
 // A touch message of records.
-#[unsafe(no_mangle)]
-pub extern "C" fn kangirlo_panel_write_touch(
+pub fn kangirlo_panel_write_touch(
     panel: &mut Panel,
     output: &mut [u8],
     time: Milliseconds,
@@ -61,12 +58,7 @@ pub extern "C" fn kangirlo_panel_write_touch(
 }
 
 // Dismiss.
-#[unsafe(no_mangle)]
-pub extern "C" fn kangirlo_panel_write_dismiss(
-    panel: &mut Panel,
-    output: &mut [u8],
-    id: u8,
-) -> Written
+pub fn kangirlo_panel_write_dismiss(panel: &mut Panel, output: &mut [u8], id: u8) -> Written
     ensures { Sends panel.old (dismiss_sending panel.old id) panel.new result output.old output.new }
 {
     let outgoing = sending::write_dismiss(*panel, output, id);
@@ -75,16 +67,14 @@ pub extern "C" fn kangirlo_panel_write_dismiss(
 }
 
 // A message that arrived at a panel with these marks; its contacts are not needed.
-#[unsafe(no_mangle)]
-pub extern "C" fn kangirlo_panel_take_parts(marks: PanelMarks, message: &[u8]) -> Heard
+pub fn kangirlo_panel_take_parts(marks: PanelMarks, message: &[u8]) -> Heard
     ensures { TakesParts marks message.now result }
 {
     panels::take_parts(marks, message)
 }
 
 // Client ready, of a panel with these marks; its contacts are not needed.
-#[unsafe(no_mangle)]
-pub extern "C" fn kangirlo_panel_write_ready_parts(
+pub fn kangirlo_panel_write_ready_parts(
     marks: PanelMarks,
     output: &mut [u8],
     flags: u32,
@@ -97,8 +87,7 @@ pub extern "C" fn kangirlo_panel_write_ready_parts(
 }
 
 // A touch message of records, of a panel that is lent in parts.
-#[unsafe(no_mangle)]
-pub extern "C" fn kangirlo_panel_write_touch_parts(
+pub fn kangirlo_panel_write_touch_parts(
     marks: PanelMarks,
     output: &mut [u8],
     time: Milliseconds,
@@ -113,8 +102,7 @@ pub extern "C" fn kangirlo_panel_write_touch_parts(
 }
 
 // Dismiss, of a panel that is lent in parts.
-#[unsafe(no_mangle)]
-pub extern "C" fn kangirlo_panel_write_dismiss_parts(
+pub fn kangirlo_panel_write_dismiss_parts(
     marks: PanelMarks,
     output: &mut [u8],
     id: u8,

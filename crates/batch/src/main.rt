@@ -1,6 +1,7 @@
 // Buffers of bench-file entries, each fed to one receiver in a single call with the room and the places that stand before it: for
 // each its number, the refusal, the entries and the records, and a line for each entry that was fed.
 #![tactic(auto)]
+
 ghost use Rattle.std.specs.Prelude.{◌≤◌, length};
 ghost use Rattle.feed.specs.Within.{entry_most};
 

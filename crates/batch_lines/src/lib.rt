@@ -1,5 +1,6 @@
 // What is said of a batch on a page: what it came to, and below that a line for each entry that was fed, with its records.
 #![tactic(auto)]
+
 ghost use Rattle.std.specs.Prelude.{◌≡◌, ◌*◌, ◌^◌, ◌<◌, ◌≤◌, length};
 ghost use Rattle.house.specs.Fields.{record_bytes};
 ghost use Rattle.intake.specs.Feeding.{answer_numbers};

@@ -1,5 +1,6 @@
 // A burst of messages in one call: a buffer of bench-file entries, fed to one receiver, with an answer for each.
 #![tactic(auto)]
+
 ghost use Rattle.std.specs.Prelude.{◌≡◌, length};
 ghost use Rattle.contacts.specs.Ruling.{arrays_from};
 ghost use Rattle.receiver.specs.Receive.{of_parts};

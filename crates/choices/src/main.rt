@@ -1,6 +1,7 @@
 // A label over entries that are commands: a list of buttons, one of them shown or hidden, or records. Of each entry its number, and what
 // came of it; of records the refusal, how many choices there were, and each as a contact's id and an item.
 #![tactic(auto)]
+
 ghost use Rattle.std.specs.Prelude.{◌*◌, ◌≤◌, length};
 ghost use Rattle.feed.specs.Within.{entry_most};
 

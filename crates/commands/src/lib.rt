@@ -1,5 +1,6 @@
 // What the programs over a panel share: an entry of their input is a command, and the command carried out.
 #![tactic(auto)]
+
 mod carrying;
 mod parts;
 

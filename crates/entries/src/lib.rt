@@ -1,5 +1,6 @@
 // Document 01, "A bench file": entries of a 16-bit length, most significant byte first, then a message.
 #![tactic(auto)]
+
 mod numbers;
 
 ghost use Rattle.std.specs.Prelude.{◌≡◌, ◌+◌, ◌*◌};

@@ -1,5 +1,6 @@
 // A house record as numbers alone, for callers that have no enums.
 #![tactic(auto)]
+
 ghost use Rattle.std.specs.Prelude.{◌≡◌};
 ghost use Rattle.flat_records.specs.Flat.{flat, flattened, bare, flat_head, flat_contact, refused as refusedRecord};
 

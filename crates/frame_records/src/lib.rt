@@ -1,5 +1,6 @@
 // The records of a frame, from the frame's bytes in a message.
 #![tactic(auto)]
+
 mod find;
 mod write;
 

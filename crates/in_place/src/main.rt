@@ -2,12 +2,16 @@
 // call that is lent its parts. Prints for each entry its number, the refusal, the records, and what was left in the receiver: the three marks
 // and how many contacts are active.
 #![tactic(auto)]
+
 ghost use Rattle.std.specs.Prelude.{◌≤◌, length};
 ghost use Rattle.lines.specs.Page.{text_of, Added, Prints};
 ghost use Rattle.in_place.specs.Line.{line_most, left_text, line_of, cut_line, Stands};
 
 use entries::Front;
 use receiver::{Answer, Marks};
+
+// Standard input, as the system numbers it.
+const STANDARD_INPUT: i32 = 0;
 
 // The longest line: its number and six more of at most 20 digits, these behind a space each, and the line's end. A line ` cut` is shorter.
 const LINE_MOST: usize = 20 + 6 * 21 + 1;
@@ -123,7 +127,7 @@ fn main() {
     let mut file = [0u8; 65536];
     let mut page = [0u8; 65536];
     let mut output = [0u8; receiver::OUTPUT_MOST];
-    let n = io::read_full(libc::STDIN_FILENO, &mut file);
+    let n = io::read_full(STANDARD_INPUT, &mut file);
     let at = run(&file[..n], &mut page, &mut output);
     lines::write_out(&page, at);
     let end = run_parts(&file[..n], &mut page, &mut output);

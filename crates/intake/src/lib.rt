@@ -1,5 +1,6 @@
 // The entries of a bench file, fed to a receiver: the bench program's loop, without reading and printing.
 #![tactic(auto)]
+
 ghost use Rattle.std.specs.Prelude.{◌≡◌, ◌≤◌, ◌<◌, length};
 ghost use Rattle.slices.specs.Writing.{laid};
 ghost use Rattle.contacts.specs.Ruling.{arrays_from};

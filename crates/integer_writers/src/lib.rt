@@ -1,5 +1,6 @@
 // The five integers of 000, 2.2.2, written in their only form, and how long that is.
 #![tactic(auto)]
+
 mod common;
 mod lengths;
 mod write;

@@ -1,5 +1,6 @@
 // The boat list: which button of a lent list a point is in, which of them are shown, and what was chosen.
 #![tactic(auto)]
+
 ghost use Rattle.std.specs.Prelude.{◌≡◌};
 ghost use Rattle.presses.specs.Buttons.{first_holding, hit_in, SetsShown};
 ghost use Rattle.presses.specs.Choosing.{Chooses};

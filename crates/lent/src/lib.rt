@@ -1,5 +1,6 @@
 // The step by value, through the call that updates a receiver where it stands.
 #![tactic(auto)]
+
 ghost use Rattle.receiver.specs.Receive.{Receives};
 
 use receiver::{Received, Receiver};

@@ -1,5 +1,6 @@
 // The label's calls by value: a list of buttons of its own is lent to them, so that callers need no reference to a struct.
 #![tactic(auto)]
+
 ghost use Rattle.presses.specs.Buttons.{hit_in, SetsShown};
 ghost use Rattle.presses.specs.Choosing.{Chooses};
 

@@ -1,5 +1,6 @@
 // The messages of [MS-RDPEI] written: the header of any, and all but touch.
 #![tactic(auto)]
+
 mod little;
 mod write;
 

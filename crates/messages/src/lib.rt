@@ -1,5 +1,6 @@
 // The messages of [MS-RDPEI] read: the header of all, and the bodies of all but touch; with the numbers that their writers need too.
 #![tactic(auto)]
+
 mod body;
 mod head;
 mod little;

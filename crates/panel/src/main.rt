@@ -1,6 +1,7 @@
 // A panel over entries that are commands: each entry's number, the refusal, the bytes, and a message that was written in
 // hexadecimal.
 #![tactic(auto)]
+
 ghost use Rattle.std.specs.Prelude.{◌≡◌, ◌+◌, ◌≤◌, length};
 ghost use Rattle.messages.specs.Header.{most_bytes};
 ghost use Rattle.lines.specs.Page.{Added};

@@ -1,5 +1,6 @@
 // What is judged of a touch message beside its frames' contacts: whether records may be sent now, and the first frame's offset.
 #![tactic(auto)]
+
 ghost use Rattle.std.specs.Prelude.{◌≡◌};
 ghost use Rattle.house.specs.Layout.{record_of};
 ghost use Rattle.recordings.specs.Answer.{counted, counted_got};

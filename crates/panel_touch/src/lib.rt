@@ -1,6 +1,7 @@
 // A touch message of a panel that is lent in parts: all is judged before it is written, and a refusal leaves the marks, the contacts and the output
 // as they were.
 #![tactic(auto)]
+
 mod judging;
 
 ghost use Rattle.contacts.specs.Ruling.{table_from};

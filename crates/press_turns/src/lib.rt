@@ -1,5 +1,6 @@
 // A run over records, one a turn: between two turns somebody looks up the button that the next one looks at.
 #![tactic(auto)]
+
 ghost use Rattle.std.specs.Prelude.{◌≡◌, [], ◌∷◌, if◌then◌else◌};
 ghost use Rattle.presses.specs.Choosing.{is_choice, is_lift, looks, pressed_after};
 ghost use Rattle.presses.specs.Turns.{no_look, look_at, next_at, count_on, put_choices, TakesContact, went_to, went_on};

@@ -1,5 +1,6 @@
 // Presses on buttons: whether a button holds a point, what is kept of records from call to call, and what is answered of them.
 #![tactic(auto)]
+
 ghost use Rattle.std.specs.Prelude.{◌≡◌};
 ghost use Rattle.presses.specs.Buttons.{holds};
 ghost use Rattle.presses.specs.Choosing as spec;

@@ -1,5 +1,6 @@
 // The plain reading of touch messages, and the strict one.
 #![tactic(auto)]
+
 mod judge;
 mod passes;
 

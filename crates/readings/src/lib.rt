@@ -1,6 +1,7 @@
 // What the programs `plain` and `strict` share: a line for each entry of a bench file, with its number, the refusal, encodeTime and
 // records, and after an accepted one what writing it back gives.
 #![tactic(auto)]
+
 ghost use Rattle.std.specs.Prelude.{◌+◌, ◌*◌, ◌≤◌, length};
 ghost use Rattle.house.specs.Fields.{record_bytes};
 ghost use Rattle.lines.specs.Page.{Added};

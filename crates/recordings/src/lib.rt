@@ -1,6 +1,7 @@
 // The records of frames: whether they are well formed, each head followed by its count of contacts, how many frames they are, and
 // the contacts in them.
 #![tactic(auto)]
+
 ghost use Rattle.std.specs.Prelude.{◌≡◌};
 ghost use Rattle.recordings.specs.Answer.{counted_refusal};
 

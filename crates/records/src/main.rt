@@ -1,14 +1,18 @@
 // The records that a fresh receiver writes for the entries of a bench file, raw, one after the other: a record file.
 #![tactic(auto)]
+
 ghost use Rattle.std.specs.Prelude.{◌*◌, ◌≤◌, length};
 ghost use Rattle.house.specs.Fields.{record_bytes};
+
+// Standard output, as the system numbers it.
+const STANDARD_OUTPUT: i32 = 1;
 
 // Writes the records at the front of the output.
 fn write_records(output: &[u8], records: usize)
     requires { record_bytes * records ≤ length output.now }
 {
     let end = house::RECORD_BYTES * records;
-    io::write_all(libc::STDOUT_FILENO, &output[..end]);
+    io::write_all(STANDARD_OUTPUT, &output[..end]);
 }
 
 // A proved loop has to end, and nothing says that an input does: it stops after more rounds than any run has.
@@ -16,7 +20,7 @@ fn run(space: &mut [u8], answers: &mut [u32], output: &mut [u8]) {
     let mut round = rounds::begin();
     let mut left: u64 = 0xFFFF_FFFF_FFFF_FFFF;
     while 0 < left {
-        round = rounds::go_on(libc::STDIN_FILENO, space, round, answers, output);
+        round = rounds::go_on(feed::STANDARD_INPUT, space, round, answers, output);
         if round.entries == 0 {
             return;
         }

@@ -1,5 +1,6 @@
 // Document 01's bench program but for its input: feeds the entries of a bench file to one fresh receiver, and prints a line for each.
 #![tactic(auto)]
+
 ghost use Rattle.std.specs.Prelude.{◌+◌, ◌*◌, ◌<◌, ◌≤◌, length, ◌≡◌};
 ghost use Rattle.intake.specs.Feeding.{answer_numbers};
 ghost use Rattle.lines.specs.Page.{text_of, Added, Prints};

@@ -2,6 +2,7 @@
 // readings, and the writers of what the entry is. A line for each call: the entry's number, the call, how much was lent, and what it answered;
 // then what it wrote, or whether it kept all as it was.
 #![tactic(auto)]
+
 mod draft;
 mod lent;
 mod line;

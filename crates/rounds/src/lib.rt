@@ -1,5 +1,6 @@
 // Rounds of a run over a bench file that is read: the window is filled, and the whole entries in it are fed to the receiver.
 #![tactic(auto)]
+
 ghost use Rattle.std.specs.Prelude.{◌≡◌};
 ghost use Rattle.rounds.specs.Rounds.{begun, GoesOn};
 

@@ -1,5 +1,6 @@
 // The frames of a message, run through the table of contacts one after the other.
 #![tactic(auto)]
+
 mod carry;
 mod step;
 

@@ -1,5 +1,6 @@
 // The panel's sending side, by value: a whole panel is taken apart, and its parts are lent to the call that does the work.
 #![tactic(auto)]
+
 ghost use Rattle.std.specs.Prelude.{◌≡◌};
 ghost use Rattle.contacts.specs.Ruling.{table_from};
 ghost use Rattle.panels.specs.Panel.{panel_marks, panel_of_parts, ready_sending, touch_sending, dismiss_sending, Takes, Sends};

@@ -1,5 +1,6 @@
 // The messages that a panel writes for entries that are commands, and nothing else: a bench file.
 #![tactic(auto)]
+
 ghost use Rattle.std.specs.Prelude.{◌≡◌, ◌≤◌, length};
 ghost use Rattle.messages.specs.Header.{most_bytes};
 ghost use Rattle.feed.specs.Within.{entry_most};

@@ -1,5 +1,6 @@
 // How every writer writes: at the front of the output that it is lent, its bytes and nothing past them.
 #![tactic(auto)]
+
 ghost use Rattle.slices.specs.Writing.{bytes, Writes};
 
 // What a writer answers: a refusal's number, 0 for none, and how many bytes it wrote.

@@ -1,5 +1,6 @@
 // A record as the fields of a message: how many bytes they take, before any is written.
 #![tactic(auto)]
+
 ghost use Rattle.std.specs.Prelude.{◌≡◌, cond, false, [], ◌+◌, length};
 ghost use Rattle.fields.specs.Integers.{taken};
 ghost use Rattle.house.specs.Layout.{record_of};

@@ -1,6 +1,7 @@
 // Which records a label takes: well formed, in whole frames with cancels and dismissals between them, each contact by the state table; and what it
 // refuses others with.
 #![tactic(auto)]
+
 ghost use Rattle.std.specs.Prelude.{◌≡◌};
 ghost use Rattle.presses.specs.Choosing.{may_stand, due_after, is_legal, states_after, is_taken};
 ghost use Rattle.presses.specs.Turns.{ruled};

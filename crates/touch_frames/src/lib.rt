@@ -1,5 +1,6 @@
 // Frames and the whole body of a touch message: where they end, or the first fault.
 #![tactic(auto)]
+
 ghost use Rattle.formats.specs.Answer.{Answers, skip};
 ghost use Rattle.formats.specs.Format.{series, times};
 ghost use Rattle.fields.specs.Integers.{taken_by};

@@ -1,5 +1,6 @@
 // A run over the entries of standard input that prints a line for each: what the programs that do so share.
 #![tactic(auto)]
+
 ghost use Rattle.std.specs.Prelude.{◌≡◌};
 ghost use Rattle.turns.specs.Turns.{begun, following, Turns, EndsLine};
 

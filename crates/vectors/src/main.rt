@@ -2,6 +2,7 @@
 // r an integer read in its only form, a in any form, w an integer written, h a head written, H a head of a count in two bytes written,
 // c a contact written, d a record read.
 #![tactic(auto)]
+
 mod parse;
 mod print;
 mod records;

@@ -1,5 +1,6 @@
 // Which house records are well formed.
 #![tactic(auto)]
+
 ghost use Rattle.std.specs.Prelude.{◌≡◌};
 ghost use Rattle.well_formed.specs.WellFormed.{well_as};
 

@@ -1,6 +1,7 @@
 // The touch writer over entries of encode time and records: each entry's number, the refusal, the bytes, and a message in
 // hexadecimal.
 #![tactic(auto)]
+
 ghost use Rattle.std.specs.Prelude.{◌+◌, ◌≤◌, length};
 ghost use Rattle.lines.specs.Page.{Added};
 ghost use Rattle.turns.specs.Turns.{TellsLine};

@@ -9,7 +9,6 @@ use lib.ListN.{length}
 use Rattle.digits.specs.Digits.{Bytes}
 use Rattle.entries.specs.Entries.{front_of}
 use Rattle.entries.specs.declared.Front.{Front}
-use Rattle.entries.specs.declared.Front.TheVariants as Front
 use Rattle.feed.specs.Within.{entry_most, Inside, bytes_in}
 use Rattle.feed.proofs.Ending.{no-entry-only-at-the-end}
 use Rattle.intake.specs.Feeding.{answer_numbers, fed_from}

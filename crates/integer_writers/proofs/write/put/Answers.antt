@@ -1,0 +1,11 @@
+-- `integer_writers::write::put` meets its contract: the digits, and byte one before them.
+-- Assumes nothing.
+use native.Mathlib.Omega.{arith}
+use Rattle.integer_writers.proofs.Fill.{placed}
+use Rattle.integer_writers.proofs.write.put.Goals as goal
+
+pub returns : goal.returns
+returns c =
+    let d = c.before.before in
+    let a = d.args in
+    rw (d.fill-top.ensures.1, d.fill-top.ensures.0) (placed a.t a.q a.c a.s a.m a.out.now (omega arith))

@@ -14,7 +14,6 @@ use Rattle.house.specs.declared.Contact.{Contact}
 use Rattle.house.specs.declared.Head.{Head}
 use Rattle.house.specs.declared.Point.{Point}
 use Rattle.house.specs.declared.Record.{Record}
-use Rattle.house.specs.declared.Record.TheVariants as Record
 use Rattle.house.specs.declared.Sides.{Sides}
 use Rattle.well_formed.specs.WellFormed.{has}
 use Rattle.framing.specs.Format.{frame_head_format, body_head_format}

@@ -2,7 +2,6 @@
 use Rattle.std.specs.Prelude.{ℕ, false, List, []}
 use Rattle.fields.specs.Integers.{taken}
 use Rattle.house.specs.declared.Record.{Record}
-use Rattle.house.specs.declared.Record.TheVariants as Record
 use Rattle.touch.specs.Touch.{contact, frame_head}
 
 -- a head is what stands before a frame's contacts

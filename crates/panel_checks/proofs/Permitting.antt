@@ -14,7 +14,6 @@ use Rattle.framing.specs.Frame.{Frame}
 use Rattle.channel.specs.Marks.{off}
 use Rattle.recordings.specs.Answer.{counted, counted_got}
 use Rattle.recordings.specs.declared.Counted.{Counted}
-use Rattle.recordings.specs.declared.Counted.TheVariants as Counted
 use Rattle.panel_checks.specs.Checks.{permitted}
 
 module _ (ready suspended : ℕ) (x : Got (List (Frame Contact))) (k : Counted) (h : counted_got k ≡ counted x) where

@@ -5,7 +5,6 @@ use Rattle.paper.specs.Refusals as refusals
 use Rattle.formats.specs.Format.{Got, got, bad, and_then}
 use Rattle.house.specs.declared.Contact.{Contact}
 use Rattle.house.specs.declared.Record.{Record}
-use Rattle.house.specs.declared.Record.TheVariants as Record
 use Rattle.framing.specs.Frame.{Frame}
 use Rattle.channel.specs.Marks.{off, judged_by}
 

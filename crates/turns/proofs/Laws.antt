@@ -9,14 +9,12 @@ use lib.ListN.{length, length-append}
 use Rattle.feed.specs.Within.{HandsOut}
 use Rattle.feed.specs.declared.Window.{Window}
 use Rattle.feed.specs.declared.Next.{Next}
-use Rattle.feed.specs.declared.Next.TheVariants as Next
 use Rattle.lines.specs.Page.{Placed, add_all, text_of, Added, turned_to, decimal, line_end, cut_word}
 use Rattle.lines.proofs.Adding.{added-to, all-with-room}
 use Rattle.lines.proofs.Decimal.{digits-few}
 use Rattle.lines.proofs.Printing.{turned-has-room, added-prints, prints-then}
 use Rattle.turns.specs.declared.Stand.{Stand}
 use Rattle.turns.specs.declared.Turn.{Turn}
-use Rattle.turns.specs.declared.Turn.TheVariants as Turn
 use Rattle.turns.specs.Turns.{following, numbered, turn_of, page_of, Turns, EndsLine, TellsLine}
 
 -- the number of a run rises with each turn

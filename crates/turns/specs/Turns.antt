@@ -2,11 +2,9 @@
 use Rattle.std.specs.Prelude.{ℕ, ◌+◌, ◌≡◌, cond, List, [], ◌∷◌, ◌++◌, ltb}
 use Rattle.feed.specs.Within.{HandsOut}
 use Rattle.feed.specs.declared.Next.{Next}
-use Rattle.feed.specs.declared.Next.TheVariants as Next
 use Rattle.lines.specs.Page.{Placed, add_to, add_all, text_of, turned_to, Prints, decimal, line_end, cut_word}
 use Rattle.turns.specs.declared.Stand.{Stand}
 use Rattle.turns.specs.declared.Turn.{Turn}
-use Rattle.turns.specs.declared.Turn.TheVariants as Turn
 
 abbrev pub begun : Stand
 begun = record { window = record { at = 0; end = 0 }; at = 0; number = 1 }

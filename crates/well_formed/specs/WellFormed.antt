@@ -7,7 +7,6 @@ use Rattle.house.specs.declared.Head.{Head}
 use Rattle.house.specs.declared.Contact.{Contact}
 use Rattle.house.specs.declared.Sides.{Sides}
 use Rattle.house.specs.declared.Record.{Record}
-use Rattle.house.specs.declared.Record.TheVariants as Record
 
 -- the limits of a message: of a coordinate's magnitude (S4) and a side's (S2), of an orientation and of a pressure
 abbrev pub place_most : ℕ

@@ -1,0 +1,19 @@
+-- `report::add_line` meets its contract: its calls add the texts of the line in order.
+-- Assumes nothing.
+use borrow.Author.Rules.{rules}
+use Rattle.lines.proofs.Adding.{added_then}
+use Rattle.report.proofs.add_line.Goals as goal
+
+pub returns : goal.returns
+returns c =
+    let k₅ = c.before.before.before.before.before.before in
+    let k₄ = k₅.before.before.before.before.before in
+    let k₃ = k₄.before.before.before.before.before in
+    let k₂ = k₃.before.before.before.before.before in
+    let k₁ = k₂.before.before.before.before.before in
+    added_then k₁.add_number-at.ensures
+    (added_then k₁.add_count-at.ensures
+    (added_then k₂.add_count-at-2.ensures
+    (added_then k₃.add_count-at-3.ensures
+    (added_then k₄.add_count-at-4.ensures
+    (added_then k₅.add_count-at-5.ensures c.add_byte.ensures)))))

@@ -79,21 +79,13 @@ fn print_argument(
 }
 
 // Argument 0 is the program's own name.
-fn run(
-    rt: &HostRuntime,
-    space: &mut [u8],
-    answers: &mut [u32],
-    output: &mut [u8],
-    page: &mut [u8],
-)
+fn run(rt: &HostRuntime, space: &mut [u8], answers: &mut [u32], output: &mut [u8], page: &mut [u8])
     requires { Enough space.old answers.old output.old page.old }
 {
-    let mut i: usize = 1;
-    while i < usize::MAX {
+    for i in 1..usize::MAX {
         if !print_argument(rt, i, space, answers, output, page) {
             return;
         }
-        i += 1;
     }
 }
 

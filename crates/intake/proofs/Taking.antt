@@ -15,7 +15,6 @@ use Rattle.slices.specs.Writing.{laid}
 use Rattle.slices.proofs.Tails.{laid_at, laid_none, tail-is, wrote as wrote_on}
 use Rattle.entries.specs.Entries.{front_of}
 use Rattle.entries.specs.declared.Front.{Front}
-use Rattle.entries.specs.declared.Front.TheVariants as Front
 use Rattle.entries.proofs.Laws.{front-inside}
 use Rattle.house.specs.Fields.{record_bytes}
 use Rattle.machine.specs.Table.{contacts}

@@ -3,7 +3,6 @@ use Rattle.std.specs.Prelude.{ℕ, zero, suc, ◌+◌, ◌-◌, ◌*◌, ◌/◌
 use Rattle.slices.specs.Writing.{laid}
 use Rattle.entries.specs.Entries.{front_of}
 use Rattle.entries.specs.declared.Front.{Front}
-use Rattle.entries.specs.declared.Front.TheVariants as Front
 use Rattle.house.specs.Fields.{record_bytes}
 use Rattle.machine.specs.Machine.{Arrays}
 use Rattle.receiver.specs.Receive.{of_parts}

@@ -12,7 +12,6 @@ use Rattle.touch.proofs.Unique.{contact-answer-unique}
 use Rattle.recordings.specs.Records.{contact_record, frames_in}
 use Rattle.recordings.specs.Answer.{contacts_after, counted, counted_got, counted_refusal}
 use Rattle.recordings.specs.declared.Counted.{Counted}
-use Rattle.recordings.specs.declared.Counted.TheVariants as Counted
 
 pub read-contact-unique : (l : List ℕ) (a b : ReadContact) → Answers contact_record l (contact_got a l) (contact_length a) → Answers contact_record l (contact_got b l) (contact_length b) → a ≡ b
 read-contact-unique = contact-answer-unique contact_record

@@ -2,12 +2,10 @@
 use Rattle.std.specs.Prelude.{ℕ, Bool, false, cond, List, [], eqb, length}
 use Rattle.formats.specs.Format.{Got, got, bad}
 use Rattle.house.specs.declared.Record.{Record}
-use Rattle.house.specs.declared.Record.TheVariants as Record
 use Rattle.house.specs.declared.Contact.{Contact}
 use Rattle.well_formed.specs.WellFormed.{well_as}
 use Rattle.framing.specs.Frame.{Frame}
 use Rattle.recordings.specs.declared.Counted.{Counted}
-use Rattle.recordings.specs.declared.Counted.TheVariants as Counted
 
 -- the kind of a record, and no kind where there is no whole record
 abbrev pub kind_in : Record → ℕ

@@ -4,7 +4,8 @@
 mod events;
 
 ghost use Rattle.contacts.specs.Ruling.{arrays_from};
-ghost use Rattle.receiver.specs.Receive.{of_parts, Receives};
+ghost use Rattle.receiver.specs.Receive as spec;
+ghost use Rattle.receiver.specs.Receive.{of_parts};
 
 use messages::Header;
 use receiver::{Marks, Received, Receiver, Turn};
@@ -20,7 +21,7 @@ pub fn receive_parts(
     ys: &mut [i32; 256],
     held: &mut [u8; 256],
 ) -> Turn
-    ensures { Receives (of_parts marks (arrays_from states.old xs.old ys.old held.old)) message.now output.old (of_parts result.marks (arrays_from states.new xs.new ys.new held.new)) result.answer output.new }
+    ensures { spec.Receives (of_parts marks (arrays_from states.old xs.old ys.old held.old)) message.now output.old (of_parts result.marks (arrays_from states.new xs.new ys.new held.new)) result.answer output.new }
 {
     if marks.ready == 0 {
         return events::receive_ready(marks, message);
@@ -39,7 +40,7 @@ pub fn receive_parts(
 
 // A message, judged and carried out, or refused with nothing changed. The contacts and the set are copied once, and lent to all that follows.
 pub fn receive(receiver: Receiver, message: &[u8], output: &mut [u8]) -> Received
-    ensures { Receives receiver message.now output.old result.receiver result.answer output.new }
+    ensures { spec.Receives receiver message.now output.old result.receiver result.answer output.new }
 {
     let mut states = receiver.states;
     let mut xs = receiver.xs;

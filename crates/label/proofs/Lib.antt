@@ -1,6 +1,1 @@
--- What is shown of lent lists of buttons.
 pub mod Places
-pub mod Unique
-pub mod Again
-pub mod Arrays
-pub mod Held

@@ -1,10 +1,14 @@
 -- Places in a list of buttons: how far from its start they are, which of them a search ends at, and what is hit there.
 -- Assumes nothing.
-use Prim.Native.Nat.{ℕ, zero, suc, ◌<◌, ◌+◌, ◌*◌, ◌^◌}
+use Prim.Native.Nat.{ℕ, zero, suc, ◌<◌}
 use mathlib.Core.Path.{◌≡◌, refl, sym, ap, subst, ◌∙◌}
 use mathlib.Core.Bool.{true, false, cond, not, ◌&&◌}
 use mathlib.Core.List.{List, [], ◌∷◌}
 use native.Mathlib.Omega.{arith}
+use lib.IntN.{ℤ}
+use mir.Syntax.{w32}
+use mir.Val.{SFits, of_z, to_z}
+use Rattle.std.proofs.lemmas.Int.{to_z-of_z}
 use borrow.Author.Tests.{not-true, not-false, lt-ltb}
 use lib.Dec.{T as Holds, leb-suc-suc}
 use lib.ListN.{length}
@@ -14,14 +18,6 @@ use Rattle.presses.specs.Turns.{look_at, hit_at}
 use Rattle.presses.specs.declared.Button.{Button}
 use Rattle.presses.specs.declared.Look.{Look}
 use Rattle.label.specs.Lists.{passed}
-
--- a button has 24 bytes, and where the list fits, so does the distance of a place from its start
-pub distance-fits : (place n : ℕ) → place < n → n * 24 < 2 ^ 63 → place * 24 < 2 ^ 64
-distance-fits place n l r = omega (arith, l, r)
-
--- and so does the place's number
-pub number_fits : (place n : ℕ) → place < n → n < 2 ^ 64 → place + 1 < 2 ^ 64
-number_fits place n l r = omega (arith, l, r)
 
 -- past the first button, and past one behind it
 passed_first : (b : Button) (bs : List Button) (p : Point) → passed (b ∷ bs) 0 p ≡ not (holds b p)
@@ -49,3 +45,10 @@ hit-due bs l at look place e due p =
 pub hit-none : (bs : List Button) (l : List ℕ) (at : ℕ) (look : Look) → look ≡ look_at l at → look.due ≡ false → nowhere ≡ hit_at (hit_in bs) l at
 unfolding hit_at
 hit-none bs l at look e due = ap (λ t. cond t (hit_in bs (look_at l at).point) nowhere) (sym due ∙ ap (λ d. d.due) e)
+
+abbrev pub record_point : ℤ → ℤ → Point
+record_point x y = record { x = x; y = y }
+
+-- a point whose numbers were passed as their bits is the point
+pub point-is : (x y : ℤ) → SFits w32 x → SFits w32 y → record_point (to_z w32 (of_z w32 x)) (to_z w32 (of_z w32 y)) ≡ record_point x y
+point-is x y fx fy = λ i. record { x = to_z-of_z w32 x fx i; y = to_z-of_z w32 y fy i }

@@ -12,8 +12,7 @@ mod drive;
 mod search;
 
 // The place of the first shown button that holds a point, or the number of buttons where there is none.
-#[unsafe(no_mangle)]
-pub extern "C" fn kangirlo_button_at(buttons: &[Button], x: i32, y: i32) -> usize
+pub fn kangirlo_button_at(buttons: &[Button], x: i32, y: i32) -> usize
     ensures { result ≡ first_holding buttons.now (record { x = x; y = y }) }
 {
     let mut at: usize = 0;
@@ -24,8 +23,7 @@ pub extern "C" fn kangirlo_button_at(buttons: &[Button], x: i32, y: i32) -> usiz
 }
 
 // Shows or hides the button at a place, and answers whether there is one.
-#[unsafe(no_mangle)]
-pub extern "C" fn kangirlo_set_shown(buttons: &mut [Button], place: usize, shown: u8) -> bool
+pub fn kangirlo_set_shown(buttons: &mut [Button], place: usize, shown: u8) -> bool
     ensures { SetsShown buttons.old place shown result buttons.new }
 {
     if place < buttons.len() {
@@ -38,8 +36,7 @@ pub extern "C" fn kangirlo_set_shown(buttons: &mut [Button], place: usize, shown
 
 // The choices of records, of a label that is lent in parts: each a contact's id and an item, in the order of the records; or a refusal, 14 or
 // 13, with nothing changed.
-#[unsafe(no_mangle)]
-pub extern "C" fn kangirlo_choose_parts(
+pub fn kangirlo_choose_parts(
     states: &mut [u8; 256],
     pressed: &mut [usize; 256],
     buttons: &[Button],

@@ -6,7 +6,6 @@ use Rattle.house.specs.Layout.{head, record_of}
 use Rattle.house.specs.declared.Head.{Head}
 use Rattle.house.specs.declared.Contact.{Contact}
 use Rattle.house.specs.declared.Record.{Record}
-use Rattle.house.specs.declared.Record.TheVariants as Record
 use Rattle.well_formed.specs.WellFormed.{well_formed}
 use Rattle.flat_records.specs.declared.FlatRecord.{FlatRecord}
 

@@ -11,13 +11,9 @@ use Rattle.formats.proofs.Laws.{never}
 use Rattle.fields.specs.Integers.{Integers}
 use Rattle.framing.specs.declared.BodyHead.{BodyHead}
 use Rattle.touch.specs.declared.ReadHead.{ReadHead}
-use Rattle.touch.specs.declared.ReadHead.TheVariants as ReadHead
 use Rattle.touch.specs.declared.ReadTouchHead.{ReadTouchHead}
-use Rattle.touch.specs.declared.ReadTouchHead.TheVariants as ReadTouchHead
 use Rattle.touch.specs.declared.End.{End}
-use Rattle.touch.specs.declared.End.TheVariants as End
 use Rattle.touch.specs.declared.CheckedBody.{CheckedBody}
-use Rattle.touch.specs.declared.CheckedBody.TheVariants as CheckedBody
 use Rattle.touch.specs.Touch.{contact, frame_head, touch_head}
 use Rattle.touch.specs.Answer.{head_got, head_length, touch_head_got, touch_head_length, end_got, end_length, checked_got, FramesAt, Begins, Checks}
 use Rattle.touch.proofs.Unique.{make, gone, by-making}

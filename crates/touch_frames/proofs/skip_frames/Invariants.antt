@@ -1,0 +1,15 @@
+use Prim.Native.Nat.{◌≤◌}
+use mathlib.Core.Path.{◌≡◌}
+use lib.ListN.{length, drop}
+use Rattle.formats.specs.Format.{read_series}
+use Rattle.formats.specs.Answer.{skip, skipped}
+use Rattle.fields.specs.Integers.{taken_by}
+use Rattle.touch.specs.Touch.{frame}
+use Rattle.touch_frames.proofs.skip_frames.Given as goal
+
+abbrev pub invariant-loop-left : goal.invariant-loop-left
+invariant-loop-left l =
+    (l.at ≤ length l.rest) × (skipped (read_series (λ b. (skip (frame (taken_by l.strictly) b)).read) l.first l.left (drop l.at l.rest)) ≡ skipped (read_series (λ b. (skip (frame (taken_by l.strictly) b)).read) l.judged l.n l.rest))
+
+abbrev pub decreases-loop-left : goal.decreases-loop-left
+decreases-loop-left l = l.left

@@ -16,7 +16,6 @@ use Rattle.house.specs.Layout.{record_of}
 use Rattle.house.specs.Records as house
 use Rattle.house.specs.declared.Point.{Point}
 use Rattle.house.specs.declared.Record.{Record}
-use Rattle.house.specs.declared.Record.TheVariants as Record
 use Rattle.house.proofs.Records.{records-step, records-many}
 use Rattle.well_formed.proofs.WellFormed.{never}
 use Rattle.presses.specs.declared.Label.{Label}

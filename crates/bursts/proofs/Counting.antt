@@ -10,7 +10,6 @@ use lib.Seq.{drop-drop}
 use Rattle.slices.proofs.Tails.{tail-is}
 use Rattle.entries.specs.Entries.{front_of}
 use Rattle.entries.specs.declared.Front.{Front}
-use Rattle.entries.specs.declared.Front.TheVariants as Front
 use Rattle.entries.proofs.Laws.{front-inside}
 use Rattle.intake.specs.Feeding.{entry_bytes}
 use Rattle.bursts.specs.Batch.{messages_in}

@@ -10,7 +10,6 @@ use lib.ListN.{length, take, drop, length-append, length-drop}
 use lib.Seq.{take-append-le, drop-append-le}
 use Rattle.entries.specs.Entries.{front_of}
 use Rattle.entries.specs.declared.Front.{Front}
-use Rattle.entries.specs.declared.Front.TheVariants as Front
 use Rattle.entries.proofs.Laws.{front-inside, front-append}
 use Rattle.intake.specs.Feeding.{entry_bytes}
 use Rattle.intake.proofs.Taking.{entry-message-long}

@@ -9,7 +9,6 @@ use borrow.Author.Tests.{le-leb}
 use lib.ListN.{length, drop, length-append, length-map}
 use Rattle.entries.specs.Entries.{front_of}
 use Rattle.entries.specs.declared.Front.{Front}
-use Rattle.entries.specs.declared.Front.TheVariants as Front
 use Rattle.receiver.specs.History.{Sent, messages_of, next, answer_to, wrote, after, written}
 use Rattle.receiver.specs.declared.Receiver.{Receiver}
 use Rattle.intake.specs.Feeding.{next_in, sent_from, fed_from, numbers_of, answers_to}

@@ -3,7 +3,6 @@ use Rattle.std.specs.Prelude.{ℕ, zero, suc, ◌+◌, ◌-◌, ◌/◌, ◌≡�
 use Rattle.paper.specs.Refusals.{none, bad_batch}
 use Rattle.entries.specs.Entries.{front_of}
 use Rattle.entries.specs.declared.Front.{Front}
-use Rattle.entries.specs.declared.Front.TheVariants as Front
 use Rattle.receiver.specs.History.{Sent, next, wrote}
 use Rattle.receiver.specs.declared.Receiver.{Receiver}
 use Rattle.intake.specs.Feeding.{entry_bytes, answer_numbers, Feeds}

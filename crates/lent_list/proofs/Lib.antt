@@ -1,3 +1,0 @@
--- What is shown of arrays of buttons.
-mod Arrays
-pub mod Unique

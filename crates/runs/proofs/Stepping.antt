@@ -11,7 +11,6 @@ use Rattle.machine.specs.Held.{active_ids}
 use Rattle.machine.specs.Machine.{Arrays}
 use Rattle.contacts.specs.Ruling.{table_from}
 use Rattle.contacts.specs.declared.Ruling.{Ruling}
-use Rattle.contacts.specs.declared.Ruling.TheVariants as Ruling
 use Rattle.openings.specs.Openings.{Lists}
 use Rattle.runs.specs.declared.Run.{Run}
 use Rattle.runs.specs.declared.Stepped.{Stepped}

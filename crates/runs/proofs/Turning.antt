@@ -28,7 +28,6 @@ use Rattle.machine.proofs.Machine.{injected-machine, injected-bytes, ignored-mac
 use Rattle.contacts.specs.Touch.{touch_view, touch_rules}
 use Rattle.contacts.specs.Ruling.{contacts_of, of_read, ruling_of, Counted}
 use Rattle.contacts.specs.declared.Ruling.{Ruling}
-use Rattle.contacts.specs.declared.Ruling.TheVariants as Ruling
 use Rattle.contacts.proofs.Reading.{read-ids}
 use Rattle.contacts.proofs.Judgement.{ruled-as-the-rules-say, ruled-injected, ruled-ignored, ruled-cancelled, counted-resting}
 use Rattle.moves.proofs.Moving.{stored-all}

@@ -17,7 +17,6 @@ use Rattle.machine.specs.Machine.{Arrays, cancels}
 use Rattle.contacts.specs.Touch.{touch_view}
 use Rattle.contacts.specs.Ruling.{contacts_of, judged_from, ruling_by}
 use Rattle.contacts.specs.declared.Ruling.{Ruling}
-use Rattle.contacts.specs.declared.Ruling.TheVariants as Ruling
 use Rattle.moves.specs.Moves.{Ends, Applies}
 use Rattle.openings.specs.Openings.{judged_among, Lists}
 use Rattle.runs.specs.declared.Run.{Run}

@@ -21,11 +21,10 @@ returns-then-rest-c c =
 
 pub join-requires : goal.join-requires
 join-requires c =
-    let s = c.before.before.before.before.before.before in
-    let b = get_or s.args.rest.now 0 0 in
-    let byte : b < 256 = (c.shared_slice_known-2-1.given 0).fits in
+    let b = get_or c.args.rest.now 0 0 in
+    let byte : b < 256 = (c.type_inv.rest 0).fits in
     simp length-take
-    (omega (arith, mod-lt b s.requires.0, count_small s.args.tops s.args.signs b byte s.requires.3))
+    (omega (arith, mod-lt b c.requires.0, count_small c.args.tops c.args.signs b byte c.requires.3))
 
 pub returns : goal.returns
 returns c =

@@ -19,7 +19,7 @@ overflow_mul-v c =
     let small : c.loop-i.v < 128 * 256 ^ 6 =
     let a = c.args in
     let i = c.loop-i.i in
-    let h : Bytes a.bytes.now = λ j. (c.shared_slice_known-1.given j).fits in
+    let h : Bytes a.bytes.now = λ j. (c.type_inv.bytes j).fits in
     rw c.loop-i.invariant.1
     (joined_small 128 a.head 6 (take i a.bytes.now) (bytes_take i _ h) (omega arith)
     (simp length-take (omega arith))) in
@@ -30,11 +30,11 @@ overflow_add-v c =
     let small : c.loop-i.v < 128 * 256 ^ 6 =
     let a = c.args in
     let i = c.loop-i.i in
-    let h : Bytes a.bytes.now = λ j. (c.shared_slice_known-1.given j).fits in
+    let h : Bytes a.bytes.now = λ j. (c.type_inv.bytes j).fits in
     rw c.loop-i.invariant.1
     (joined_small 128 a.head 6 (take i a.bytes.now) (bytes_take i _ h) (omega arith)
     (simp length-take (omega arith))) in
-    omega (arith, small, c.shared_slice_known-1.given c.loop-i.i)
+    omega (arith, small, c.type_inv.bytes c.loop-i.i)
 
 pub loop-i-preserved : goal.loop-i-preserved
 loop-i-preserved c =

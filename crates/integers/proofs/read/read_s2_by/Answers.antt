@@ -10,13 +10,13 @@ use Rattle.integers.proofs.read.read_s2_by.Goals as goal
 pub signed-requires : goal.signed-requires
 signed-requires c =
     let got : Taken c.args.strictly 1 1 c.args.rest.now c.in-Value.s c.in-Value.m c.in-Value.n =
-    found-taken _ 1 1 _ _ _ _ _ (omega arith) (λ i. (c.shared_slice_known-1.given i).fits) c.find-got.ensures c.in-Value.is in
+    found-taken _ 1 1 _ _ _ _ _ (omega arith) (λ i. (c.type_inv.rest i).fits) c.find-got.ensures c.in-Value.is in
     omega (arith, got.range, got.sign)
 
 pub overflow_cast-result : goal.overflow_cast-result
 overflow_cast-result c =
     let got : Taken c.args.strictly 1 1 c.args.rest.now c.in-Value.s c.in-Value.m c.in-Value.n =
-    found-taken _ 1 1 _ _ _ _ _ (omega arith) (λ i. (c.shared_slice_known-1.given i).fits) c.find-got.ensures c.in-Value.is in
+    found-taken _ 1 1 _ _ _ _ _ (omega arith) (λ i. (c.type_inv.rest i).fits) c.find-got.ensures c.in-Value.is in
     let held : (SFits w32 c.signed.result) × (SFits w16 c.signed.result) =
     (fits-size w32 _ (omega (arith, c.signed.ensures.1)), fits-size w16 _ (omega (arith, c.signed.ensures.1))) in
     cast_fits w32 w16 _ held.0 held.1
@@ -24,7 +24,7 @@ overflow_cast-result c =
 pub returns-in-Value : goal.returns-in-Value
 returns-in-Value c =
     let got : Taken c.args.strictly 1 1 c.args.rest.now c.in-Value.s c.in-Value.m c.in-Value.n =
-    found-taken _ 1 1 _ _ _ _ _ (omega arith) (λ i. (c.shared_slice_known-1.given i).fits) c.find-got.ensures c.in-Value.is in
+    found-taken _ 1 1 _ _ _ _ _ (omega arith) (λ i. (c.type_inv.rest i).fits) c.find-got.ensures c.in-Value.is in
     let held : (SFits w32 c.signed.result) × (SFits w16 c.signed.result) =
     (fits-size w32 _ (omega (arith, c.signed.ensures.1)), fits-size w16 _ (omega (arith, c.signed.ensures.1))) in
     rw (cast_same w32 w16 _ held.0 held.1, c.signed.ensures.0, c.signed.ensures.1) got.same

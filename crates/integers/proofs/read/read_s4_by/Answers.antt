@@ -11,13 +11,13 @@ use Rattle.integers.proofs.read.read_s4_by.Goals as goal
 pub signed-requires : goal.signed-requires
 signed-requires c =
     let got : Taken c.args.strictly 2 1 c.args.rest.now c.in-Value.s c.in-Value.m c.in-Value.n =
-    found-taken _ 2 1 _ _ _ _ _ (omega arith) (λ i. (c.shared_slice_known-1.given i).fits) c.find-got.ensures c.in-Value.is in
+    found-taken _ 2 1 _ _ _ _ _ (omega arith) (λ i. (c.type_inv.rest i).fits) c.find-got.ensures c.in-Value.is in
     omega (arith, got.range, got.sign)
 
 pub returns-in-Value : goal.returns-in-Value
 returns-in-Value c =
     let got : Taken c.args.strictly 2 1 c.args.rest.now c.in-Value.s c.in-Value.m c.in-Value.n =
-    found-taken _ 2 1 _ _ _ _ _ (omega arith) (λ i. (c.shared_slice_known-1.given i).fits) c.find-got.ensures c.in-Value.is in
+    found-taken _ 2 1 _ _ _ _ _ (omega arith) (λ i. (c.type_inv.rest i).fits) c.find-got.ensures c.in-Value.is in
     let t = got in
     let f : SFits w32 c.signed.result = fits-size w32 _ (omega (arith, t.range, c.signed.ensures.1)) in
     rw (to_z-of_z f, c.signed.ensures.0, c.signed.ensures.1) t.same

@@ -7,7 +7,7 @@ use Rattle.integers.proofs.read.read_u8_by.Goals as goal
 pub returns-in-Value : goal.returns-in-Value
 returns-in-Value c =
     let got : Taken c.args.strictly 3 0 c.args.rest.now c.in-Value.field-0 c.in-Value.m c.in-Value.n =
-    found-taken _ 3 0 _ _ _ _ _ (omega arith) (λ i. (c.shared_slice_known-1.given i).fits) c.find-got.ensures c.in-Value.is in
+    found-taken _ 3 0 _ _ _ _ _ (omega arith) (λ i. (c.type_inv.rest i).fits) c.find-got.ensures c.in-Value.is in
     unsigned _ 3 _ _ _ _ got
 
 pub returns-in-Refused : goal.returns-in-Refused

@@ -12,6 +12,5 @@ pub returns : goal.returns
 returns c =
     let wide : SFits w32 c.args.value =
     sfits_widen tt c.ranges.value in
-    let s = c.before in
-    let e = rw (cast_same w16 w32 _ s.ranges.value wide) at s.split.ensures in
+    let e = rw (cast_same w16 w32 _ c.ranges.value wide) at c.split.ensures in
     (rw e.1 at c.bytes_of.ensures) ∙ sym (writing-sign 1 1 _ _)

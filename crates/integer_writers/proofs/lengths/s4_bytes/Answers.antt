@@ -7,6 +7,5 @@ use Rattle.integer_writers.proofs.lengths.s4_bytes.Goals as goal
 
 pub returns : goal.returns
 returns c =
-    let s = c.before in
-    let e = rw (to_z-of_z s.ranges.value) at s.split.ensures in
+    let e = rw (to_z-of_z c.ranges.value) at c.split.ensures in
     (rw e.1 at c.bytes_of.ensures) ∙ sym (writing-sign 2 1 _ _)

@@ -6,6 +6,5 @@ use Rattle.integer_writers.proofs.write.put.Goals as goal
 
 pub returns : goal.returns
 returns c =
-    let d = c.before.before in
-    let a = d.args in
-    rw (d.fill-top.ensures.1, d.fill-top.ensures.0) (placed a.t a.q a.c a.s a.m a.out.now (omega arith))
+    let a = c.args in
+    rw (c.fill-top.ensures.1, c.fill-top.ensures.0) (placed a.t a.q a.c a.s a.m a.out.now (omega arith))

@@ -25,9 +25,7 @@ returns-then-out-c c =
     rw few (length-formed (tops a.k a.g) (signs a.g) (fewest furthest (tops a.k a.g) a.m) a.s a.m) in
     let inside : let a = c.args in a.m < limit a.k a.g =
     omega arith in
-    let d = c.before in
-    let e = d.before.before in
-    let a = e.args in
+    let a = c.args in
     rw (draft-bytes a.k a.g a.s a.m inside) (writes-none _ _ _ _ (omega (arith, long)) refl refl)
 
 pub put-requires : goal.put-requires
@@ -36,11 +34,8 @@ put-requires c =
     rw c.power-tops.ensures at c.fewest_of-c.ensures in
     let inside : let a = c.args in a.m < limit a.k a.g =
     omega arith in
-    let d = c.before.before.before in
-    let e = d.before.before in
-    let s = e.before.before in
-    let h = held s.args.k s.args.g s.args.m (omega arith) (omega arith) inside in
-    rw (c.power.ensures, d.power-tops.ensures, few) (s.requires.4, h.fits, h.counted, omega (arith, few))
+    let h = held c.args.k c.args.g c.args.m (omega arith) (omega arith) inside in
+    rw (c.power.ensures, c.power-tops.ensures, few) (c.requires.4, h.fits, h.counted, omega (arith, few))
 
 pub returns : goal.returns
 returns c =
@@ -51,10 +46,7 @@ returns c =
     rw few (length-formed (tops a.k a.g) (signs a.g) (fewest furthest (tops a.k a.g) a.m) a.s a.m) in
     let inside : let a = c.args in a.m < limit a.k a.g =
     omega arith in
-    let p = c.before.before in
-    let d = p.before.before.before.before in
-    let e = d.before.before in
-    let a = e.args in
+    let a = c.args in
     rw (draft-bytes a.k a.g a.s a.m inside)
     (writes_bytes _ _ _ _ (omega (arith, long)) (ap (λ n. record { refusal = none; bytes = n }) (sym long))
-    (rw (p.power.ensures, d.power-tops.ensures, few) at p.put.ensures))
+    (rw (c.power.ensures, c.power-tops.ensures, few) at c.put.ensures))

@@ -22,7 +22,6 @@ use Rattle.framing.proofs.After.{read-end, read-bad}
 use Rattle.touch.specs.Touch.{contact, touch_record}
 use Rattle.touch.specs.Answer.{contact_got, contact_length}
 use Rattle.touch.specs.declared.ReadContact.{ReadContact}
-use Rattle.touch.specs.declared.ReadContact.TheVariants as ReadContact
 use Rattle.frame_records.specs.Frames.{records_read, WritesContacts}
 use Rattle.frame_records.proofs.Laws.{records-most, records-on}
 

@@ -16,15 +16,22 @@ pub const ILLEGAL: u8 = 3;
 
 // Three entries for each flag value: from out of range, from hovering, from engaged.
 const NEXT: [u8; 24] = [
-    HOVERING, // 0x0A
-    HOVERING, ILLEGAL, ENGAGED, // 0x19
-    ENGAGED, ILLEGAL, ILLEGAL, // 0x1A
-    ILLEGAL, ENGAGED, ILLEGAL, // 0x0C
-    ILLEGAL, HOVERING, ILLEGAL, // 0x04
-    ILLEGAL, OUT, ILLEGAL, // 0x24
-    ILLEGAL, OUT, ILLEGAL, // 0x02
-    OUT, ILLEGAL, ILLEGAL, // 0x22
-    OUT, ILLEGAL,
+    // 0x0A
+    HOVERING, HOVERING, ILLEGAL,
+    // 0x19
+    ENGAGED, ENGAGED, ILLEGAL,
+    // 0x1A
+    ILLEGAL, ILLEGAL, ENGAGED,
+    // 0x0C
+    ILLEGAL, ILLEGAL, HOVERING,
+    // 0x04
+    ILLEGAL, ILLEGAL, OUT,
+    // 0x24
+    ILLEGAL, ILLEGAL, OUT,
+    // 0x02
+    ILLEGAL, OUT, ILLEGAL,
+    // 0x22
+    ILLEGAL, OUT, ILLEGAL,
 ];
 
 // The row of a flag value, and 8 where the table has none.

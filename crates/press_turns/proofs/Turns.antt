@@ -7,7 +7,6 @@ use Rattle.house.specs.Layout.{record_of}
 use Rattle.house.specs.declared.Head.{Head}
 use Rattle.house.specs.declared.Contact.{Contact}
 use Rattle.house.specs.declared.Record.{Record}
-use Rattle.house.specs.declared.Record.TheVariants as Record
 use Rattle.presses.specs.declared.Hit.{Hit}
 use Rattle.presses.specs.declared.Tally.{Tally}
 use Rattle.presses.specs.Choosing.{Choice, is_choice, pressed_after, states_after, pressed_in, record_chosen, point_of}

@@ -9,7 +9,6 @@ use Rattle.framing.specs.Format.{body_head_of}
 use Rattle.touch.specs.Touch.{Touch, frame, touch_record}
 use Rattle.framing.specs.declared.BodyHead.{BodyHead}
 use Rattle.touch.specs.declared.CheckedBody.{CheckedBody}
-use Rattle.touch.specs.declared.CheckedBody.TheVariants as CheckedBody
 use Rattle.frame_records.specs.Frames.{record_count}
 use Rattle.reading.specs.Plain.{read_by}
 

@@ -4,13 +4,13 @@
 set -u
 emulator=$1 out=$2
 shift 2
-tools=$(dirname "$(dirname "$(rt doc)")")/on/$(uname -m)/toolchain
+tools=$(dirname "$(rt doc)")/toolchain
 rm -rf "$out/records" "$out/wanted"
 mkdir -p "$out/records" "$out/wanted"
 ${emulator:+"$emulator"} "$out/host" "$out/records" "$@" || exit 1
 files=0
 for file in "$@"; do
-    ${emulator:+"$emulator"} "$tools/lib/ld-linux-x86-64.so.2" --library-path "$tools/lib" ../../target/bin/records <"$file" >"$out/wanted/$files" || exit 1
+    ${emulator:+"$emulator"} "$tools/lib/ld-linux-x86-64.so.2" --library-path "$tools/lib" ../../crates/records/out/records <"$file" >"$out/wanted/$files" || exit 1
     files=$((files + 1))
 done
 session=0 passed=0 failed=0

@@ -1,5 +1,5 @@
-# What the examples have in common: how to compile and run for x86-64, natively or with a cross compiler and the kit's emulator, and where
-# the archives come from. Included by a Makefile that sets top and out.
+# What the examples have in common: how to compile and run for x86-64, natively or with a cross compiler and qemu-x86_64, and where the
+# archives come from. Included by a Makefile that sets top and out.
 shared := $(top)/examples/shared
 archives := $(top)/target/staticlib
 headers := $(top)/include/kangirlo.h $(wildcard $(shared)/*.h *.h)
@@ -13,7 +13,7 @@ compiler := gcc
 emulator :=
 else
 compiler := x86_64-linux-gnu-gcc
-emulator := $(shell dirname "$$(dirname "$$(rt doc)")")/on/$(machine)/toolchain/bin/qemu-x86_64
+emulator := qemu-x86_64
 endif
 
 # Rust's compiler, 1.63 or later; it links by the C compiler
@@ -21,7 +21,7 @@ RUSTC ?= rustc
 rust_flags := --edition 2021 -O --target x86_64-unknown-linux-gnu -C linker=$(compiler)
 
 $(archives)/lib%.a: $(sources)
-	cd $(top) && rt staticlib $*
+	$(top)/archive $*
 
 # a program is its own file, and the shared files and archives that its Makefile gives it
 $(out)/%: %.c $(headers)

@@ -1,0 +1,2 @@
+-- What is shown of arrays of buttons.
+pub mod Unique

@@ -41,7 +41,7 @@ message_bytes-total-requires c =
     let time : Milliseconds =
     c.args.time in
     let byte : Bytes lent =
-    λ i. (c.shared_slice_known-1.given i).fits in
+    λ i. (c.type_inv.records i).fits in
     let count : ℕ =
     c.in-Frames.frames in
     let frames : Frames time lent count =
@@ -55,7 +55,7 @@ returns-then-total-gt-MESSAGE_MOST c =
     let time : Milliseconds =
     c.args.time in
     let byte : Bytes lent =
-    λ i. (c.shared_slice_known-1.given i).fits in
+    λ i. (c.type_inv.records i).fits in
     let count : ℕ =
     c.in-Frames.frames in
     let frames : Frames time lent count =
@@ -74,7 +74,7 @@ returns-then-out-total c =
     let time : Milliseconds =
     c.args.time in
     let byte : Bytes lent =
-    λ i. (c.shared_slice_known-1.given i).fits in
+    λ i. (c.type_inv.records i).fits in
     let count : ℕ =
     c.in-Frames.frames in
     let frames : Frames time lent count =
@@ -93,7 +93,7 @@ write_message-requires c =
     let time : Milliseconds =
     c.args.time in
     let byte : Bytes lent =
-    λ i. (c.shared_slice_known-1.given i).fits in
+    λ i. (c.type_inv.records i).fits in
     let count : ℕ =
     c.in-Frames.frames in
     let frames : Frames time lent count =
@@ -107,7 +107,7 @@ returns c =
     let time : Milliseconds =
     c.args.time in
     let byte : Bytes lent =
-    λ i. (c.shared_slice_known-1.given i).fits in
+    λ i. (c.type_inv.records i).fits in
     let count : ℕ =
     c.in-Frames.frames in
     let frames : Frames time lent count =

@@ -1,5 +1,6 @@
 -- `writing::parts::write_four` meets its contract: left and top, then right and bottom.
 -- Assumes nothing.
+use native.Mathlib.Omega.{arith}
 use Prim.Native.Nat.{◌-◌}
 use mathlib.Core.List.{◌++◌, append-nil, append_assoc}
 use mir.Syntax.{w16}
@@ -26,7 +27,7 @@ pub write_two-at_right-requires : goal.write_two-at_right-requires
 unfolding sides
 write_two-at_right-requires c =
     let fit : Fit c.args.four =
-    let g = c.struct_told-1.given in
+    let g = c.type_inv.four in
     record { left = record { sfits = g.0.1 }; top = record { sfits = g.1.0.1 }; right = record { sfits = g.1.1.0.1 }; bottom = record { sfits = g.1.1.1.0.1 } } in
     let parted : let s = c.args.four in
     Parted (taken.s2.write s.left ++ taken.s2.write s.top) (taken.s2.write s.right ++ taken.s2.write s.bottom) ((sides taken).write s) c.args.out.now =
@@ -38,7 +39,7 @@ pub write_two-requires : goal.write_two-requires
 unfolding sides
 write_two-requires c =
     let fit : Fit c.args.four =
-    let g = c.struct_told-1.given in
+    let g = c.type_inv.four in
     record { left = record { sfits = g.0.1 }; top = record { sfits = g.1.0.1 }; right = record { sfits = g.1.1.0.1 }; bottom = record { sfits = g.1.1.1.0.1 } } in
     let parted : let s = c.args.four in
     Parted (taken.s2.write s.left ++ taken.s2.write s.top) (taken.s2.write s.right ++ taken.s2.write s.bottom) ((sides taken).write s) c.args.out.now =
@@ -59,8 +60,7 @@ returns c =
     Parted (taken.s2.write s.left ++ taken.s2.write s.top) (taken.s2.write s.right ++ taken.s2.write s.bottom) ((sides taken).write s) c.args.out.now =
     record { same = simp (append_assoc, append-nil); room = c.requires.1 } in
     let fit : Fit c.args.four =
-    let g = c.struct_told-1.given in
-    record { left = record { sfits = g.0.1 }; top = record { sfits = g.1.0.1 }; right = record { sfits = g.1.1.0.1 }; bottom = record { sfits = g.1.1.1.0.1 } } in
+    record { left = record { sfits = omega arith }; top = record { sfits = omega arith }; right = record { sfits = omega arith }; bottom = record { sfits = omega arith } } in
     let high : let a = c.args in
     Put (taken.s2.write a.four.left ++ taken.s2.write a.four.top) c.write_two-at_right.result a.out.now c.write_two-at_right.new.out =
     rw (to_z-of_z fit.left, to_z-of_z fit.top) at c.write_two-at_right.ensures in

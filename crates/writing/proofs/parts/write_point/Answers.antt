@@ -1,5 +1,6 @@
 -- `writing::parts::write_point` meets its contract: x, and y behind it.
 -- Assumes nothing.
+use native.Mathlib.Omega.{arith}
 use Prim.Native.Nat.{◌-◌}
 use mathlib.Core.List.{append-nil}
 use mir.Syntax.{w32}
@@ -20,18 +21,18 @@ put_s4-at_y-requires c =
     let parted : let a = c.args in Parted (taken.s4.write a.place.x) (taken.s4.write a.place.y) ((point taken).write a.place) a.out.now =
     record { same = rw append-nil; room = c.requires.1 } in
     let fit-x : SFits w32 c.args.place.x =
-    record { sfits = c.struct_told-1.given.0.1 } in
+    record { sfits = c.type_inv.place.0.1 } in
     rw (to_z-of_z fit-x) (c.requires.0.0, first-room parted)
 
 pub put_s4-requires : goal.put_s4-requires
 unfolding point
 put_s4-requires c =
     let fit-y : SFits w32 c.args.place.y =
-    record { sfits = c.struct_told-1.given.1.0.1 } in
+    record { sfits = c.type_inv.place.1.0.1 } in
     let parted : let a = c.args in Parted (taken.s4.write a.place.x) (taken.s4.write a.place.y) ((point taken).write a.place) a.out.now =
     record { same = rw append-nil; room = c.requires.1 } in
     let fit-x : SFits w32 c.args.place.x =
-    record { sfits = c.struct_told-1.given.0.1 } in
+    record { sfits = c.type_inv.place.0.1 } in
     let put-x : let a = c.args in Put (taken.s4.write a.place.x) c.put_s4-at_y.result a.out.now c.put_s4-at_y.new.out =
     rw (to_z-of_z fit-x) at c.put_s4-at_y.ensures in
     let after : Room c.put_s4-at_y.new.out c.put_s4-at_y.result (length (taken.s4.write c.args.place.y)) =
@@ -44,11 +45,11 @@ returns c =
     let parted : let a = c.args in Parted (taken.s4.write a.place.x) (taken.s4.write a.place.y) ((point taken).write a.place) a.out.now =
     record { same = rw append-nil; room = c.requires.1 } in
     let fit-x : SFits w32 c.args.place.x =
-    record { sfits = c.struct_told-1.given.0.1 } in
+    record { sfits = omega arith } in
     let put-x : let a = c.args in Put (taken.s4.write a.place.x) c.put_s4-at_y.result a.out.now c.put_s4-at_y.new.out =
     rw (to_z-of_z fit-x) at c.put_s4-at_y.ensures in
     let fit-y : SFits w32 c.args.place.y =
-    record { sfits = c.struct_told-1.given.1.0.1 } in
+    record { sfits = omega arith } in
     let put-y : let x = c.put_s4-at_y in
     Put (taken.s4.write c.args.place.y) c.put_s4.result (mid_of x.result (length x.new.out - x.result) x.new.out) c.put_s4.new.out =
     rw (to_z-of_z fit-y) at c.put_s4.ensures in

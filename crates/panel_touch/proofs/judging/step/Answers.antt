@@ -38,7 +38,7 @@ returns-then-not-judged c f rest e k =
     let l = c.args.frame.now in
     -- ids are bytes, wherever the contacts behind the head are read
     let ids : of_read true (every (in_table touch_view)) (contacts_by contact_record c.contacts_after-count.result (take (length l - 21) (drop 21 l))) ≡ true =
-    read-ids true c.contacts_after-count.result (take (length l - 21) (drop 21 l)) (bytes_take (length l - 21) (drop 21 l) (bytes_drop 21 l (λ i. (c.shared_slice_known-1.given i).fits))) in
+    read-ids true c.contacts_after-count.result (take (length l - 21) (drop 21 l)) (bytes_take (length l - 21) (drop 21 l) (bytes_drop 21 l (λ i. (c.type_inv.frame i).fits))) in
     let a = c.args in
     step-fails a.most a.frame.now f rest e _ _ (tail a.frame.now 21) _ count ids _ k c.judge-judged.result c.judge-judged.ensures (not-true c.judge-judged.result.conforms c.if-not-judged.true) _
 
@@ -49,6 +49,6 @@ returns c f rest e k =
     let l = c.args.frame.now in
     -- ids are bytes, wherever the contacts behind the head are read
     let ids : of_read true (every (in_table touch_view)) (contacts_by contact_record c.contacts_after-count.result (take (length l - 21) (drop 21 l))) ≡ true =
-    read-ids true c.contacts_after-count.result (take (length l - 21) (drop 21 l)) (bytes_take (length l - 21) (drop 21 l) (bytes_drop 21 l (λ i. (c.shared_slice_known-1.given i).fits))) in
+    read-ids true c.contacts_after-count.result (take (length l - 21) (drop 21 l)) (bytes_take (length l - 21) (drop 21 l) (bytes_drop 21 l (λ i. (c.type_inv.frame i).fits))) in
     let a = c.args in
     step-goes a.most a.frame.now f rest e _ _ (tail a.frame.now 21) _ count ids _ k c.judge-judged.result c.judge-judged.ensures (not-false c.judge-judged.result.conforms c.if-not-judged.false) _ _ c.apply-end.ensures

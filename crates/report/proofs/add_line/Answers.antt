@@ -1,6 +1,5 @@
 -- `report::add_line` meets its contract: its calls add the texts of the line in order.
 -- Assumes nothing.
-use borrow.Author.Rules.{rules}
 use Rattle.lines.proofs.Adding.{added_then}
 use Rattle.report.proofs.add_line.Goals as goal
 

@@ -1,7 +1,6 @@
 -- `report::print_last` meets its contract.
 -- Assumes nothing.
-use borrow.Author.Rules.{rules}
-use Rattle.report.proofs.Lines.{cut-printed, none-printed}
+use Rattle.report.proofs.Lines.{cut-printed}
 use Rattle.report.proofs.print_last.Goals as goal
 
 pub returns-then-window : goal.returns-then-window

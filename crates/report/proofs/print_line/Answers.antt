@@ -1,6 +1,5 @@
 -- `report::print_line` meets its contract: a line is no longer than the room that the page has for it.
 -- Assumes nothing.
-use borrow.Author.Rules.{rules}
 use Rattle.report.proofs.Lines.{line-printed}
 use Rattle.report.proofs.print_line.Goals as goal
 

@@ -1,9 +1,6 @@
 -- `report::print_lines` meets its contract: what was printed and what is still to be are the whole.
 -- Assumes nothing.
-use borrow.Author.Rules.{rules}
-use native.Mathlib.Omega.{arith}
-use lib.ListN.{length-drop, length-take}
-use Rattle.report.proofs.Lines.{Underway, underway-first, underway-next, underway-last}
+use Rattle.report.proofs.Lines.{underway-next, underway-last}
 use Rattle.report.proofs.print_lines.Goals as goal
 
 pub loop-left-preserved : goal.loop-left-preserved

@@ -1,7 +1,4 @@
-use borrow.Author.Rules.{rules}
-use native.Mathlib.Omega.{arith}
-use lib.ListN.{length-drop, length-take}
-use Rattle.report.proofs.Lines.{Underway, underway-first, underway-next, underway-last}
+use Rattle.report.proofs.Lines.{Underway}
 use Rattle.report.proofs.print_lines.Given as goal
 
 abbrev pub invariant-loop-left : goal.invariant-loop-left

@@ -1,6 +1,5 @@
 -- `batch_lines::add_answer` meets its contract: the name, the numbers and the records, or nothing.
 -- Assumes nothing.
-use borrow.Author.Rules.{rules}
 use borrow.Author.Tests.{le-leb, lt-leb}
 use Rattle.lines.proofs.Adding.{added_none, added_then}
 use Rattle.batch_lines.specs.Lines.{answer_text}

@@ -1,6 +1,5 @@
 -- `batch_lines::add_batch` meets its contract: three numbers.
 -- Assumes nothing.
-use borrow.Author.Rules.{rules}
 use Rattle.lines.proofs.Adding.{added_then}
 use Rattle.batch_lines.proofs.add_batch.Goals as goal
 

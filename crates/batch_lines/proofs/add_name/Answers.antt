@@ -1,6 +1,5 @@
 -- `batch_lines::add_name` meets its contract: the end of the line before, and two numbers with a dot between them.
 -- Assumes nothing.
-use borrow.Author.Rules.{rules}
 use Rattle.lines.proofs.Adding.{added_then}
 use Rattle.batch_lines.proofs.add_name.Goals as goal
 

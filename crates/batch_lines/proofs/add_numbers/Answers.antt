@@ -1,6 +1,5 @@
 -- `batch_lines::add_numbers` meets its contract: its calls add the numbers in order.
 -- Assumes nothing.
-use borrow.Author.Rules.{rules}
 use Rattle.lines.proofs.Adding.{added_then}
 use Rattle.batch_lines.proofs.add_numbers.Goals as goal
 

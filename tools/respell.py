@@ -1,7 +1,7 @@
 #!/usr/bin/env python3
 """Spells the repository's own words in snake case and its own types in upper camel case, as the kit's style has it.
 
-usage: python3 tools/respell.py        at the top of the repository, once, after /opt/rattle/port/port.py
+usage: python3 tools/respell.py        at the top of the repository, once, after the kit's port.py
 
 A word is what a file of specs/ or proofs/ declares. Camel case becomes snake case (packFrom: pack_from), a dash in a word of specs/ an
 underscore (origin-fits: origin_fits); the dash that joins the names in a lemma's stays. A word into Type gets a capital (byEither: ByEither).

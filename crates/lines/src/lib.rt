@@ -3,7 +3,7 @@
 
 ghost use Rattle.std.specs.Prelude.{◌≡◌, ◌<◌, [], ◌∷◌};
 ghost use Rattle.lines.specs.Page.{Added, turned_to, decimal, hex_of, hexes, space, cut_word, front_text, written_text};
-ghost use Rattle.io.specs.Digits.{hex_digit_ascii as glyphOf};
+ghost use Rattle.io.specs.Digits.{hex_digit_ascii};
 
 use slices::Written;
 
@@ -103,7 +103,7 @@ pub fn add_written(page: &mut [u8], at: usize, written: Written, output: &[u8]) 
 // The digit of a number below 16, in ASCII and lower case.
 fn glyph(digit: u8) -> u8
     requires { digit < 16 }
-    ensures { result ≡ glyphOf digit }
+    ensures { result ≡ hex_digit_ascii digit }
 {
     if digit < 10 { 48 + digit } else { 87 + digit }
 }

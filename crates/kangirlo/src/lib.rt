@@ -1,4 +1,4 @@
-// The C face: each call of include/kangirlo.h, a thin function over the call that does the work, with that call's contract.
+// Behind the C face, the crate kangirlo_c: each call of include/kangirlo.h, a thin function over the call that does the work, with that call's contract.
 #![tactic(auto)]
 
 ghost use Rattle.std.specs.Prelude.{◌≡◌};

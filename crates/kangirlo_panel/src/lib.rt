@@ -1,4 +1,4 @@
-// The C face of the panel's sending side: each call of include/kangirlo.h that is lent a panel, a thin function over the call by
+// Behind the C face of the panel's sending side, the crate kangirlo_panel_c: each call of include/kangirlo.h that is lent a panel, a thin function over the call by
 // value, with that call's contract. The panel is updated where it stands; beside each call stands one that is lent the panel in parts, the
 // marks by value and the contacts where they stand.
 #![tactic(auto)]

@@ -112,16 +112,14 @@ fn take_entry(
 ) -> Told {
     if entry.len() < HEAD {
         return Told {
-            receiver: receiver,
+            receiver,
             at: lines::add_text(page, line.at, b" bad"),
         };
     }
     let received = feed_buffer(receiver, entry, answers, output);
-    let after = received.receiver;
-    let batch = received.batch;
     Told {
-        receiver: after,
-        at: add_received(page, line.at, line.number, batch, answers, output),
+        receiver: received.receiver,
+        at: add_received(page, line.at, line.number, received.batch, answers, output),
     }
 }
 
@@ -132,7 +130,7 @@ fn run(space: &mut [u8], page: &mut [u8], answers: &mut [u32], output: &mut [u8]
 {
     let mut receiver = receiver::fresh();
     let mut stand = turns::begin();
-    while stand.number < 0xFFFF_FFFF_FFFF_FFFF {
+    for _ in 1..u64::MAX {
         let turn = turns::next_turn(space, page, stand, LINE_MOST);
         let Turn::Entry(from, to, line) = turn else {
             return;

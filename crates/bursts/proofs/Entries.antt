@@ -1,5 +1,6 @@
 -- The messages in a buffer: those of an entry and of what stands behind it, and those of two buffers, one after the other.
 -- Assumes nothing.
+use Rattle.std.specs.Prelude.{Option, Some, None}
 use Prim.Native.Nat.{ℕ, zero, suc, ◌+◌, ◌≤◌}
 use mathlib.Core.Path.{◌≡◌, refl, sym, ap, ◌∙◌}
 use mathlib.Core.Bool.{true}
@@ -9,7 +10,6 @@ use borrow.Author.Tests.{eqb-true, eq-eqb}
 use lib.ListN.{length, take, drop, length-append, length-drop}
 use lib.Seq.{take-append-le, drop-append-le}
 use Rattle.entries.specs.Entries.{front_of}
-use Rattle.entries.specs.declared.Front.{Front}
 use Rattle.entries.proofs.Laws.{front-inside, front-append}
 use Rattle.intake.specs.Feeding.{entry_bytes}
 use Rattle.intake.proofs.Taking.{entry-message-long}
@@ -18,21 +18,21 @@ use Rattle.bursts.specs.Batch.{messages_at, messages_in, complete}
 -- ---- the entry at the front
 
 -- there is none, or it is whole
-pub in-front : {P : Type 0} (l : List ℕ) → (front_of l ≡ Front.Part → P) → ((n : ℕ) → front_of l ≡ Front.Entry n → P) → P
+pub in-front : {P : Type 0} (l : List ℕ) → (front_of l ≡ None → P) → ((n : ℕ) → front_of l ≡ Some n → P) → P
 in-front {P} l none some = go (front_of l) refl
   where
-    go : (f : Front) → front_of l ≡ f → P
-    go Front.Part e = none e
-    go (Front.Entry n) e = some n e
+    go : (f : Option ℕ) → front_of l ≡ f → P
+    go None e = none e
+    go (Some n) e = some n e
 
 -- ---- the messages
 
-messages-stop : (k : ℕ) (l : List ℕ) → front_of l ≡ Front.Part → messages_at k l ≡ []
+messages-stop : (k : ℕ) (l : List ℕ) → front_of l ≡ None → messages_at k l ≡ []
 unfolding messages_at
 messages-stop zero l e = refl
 messages-stop (suc k) l e = rw e
 
-messages-step : (k : ℕ) (l : List ℕ) (n : ℕ) → front_of l ≡ Front.Entry n → messages_at (suc k) l ≡ take n (drop 2 l) ∷ messages_at k (drop (n + 2) l)
+messages-step : (k : ℕ) (l : List ℕ) (n : ℕ) → front_of l ≡ Some n → messages_at (suc k) l ≡ take n (drop 2 l) ∷ messages_at k (drop (n + 2) l)
 unfolding messages_at
 messages-step k l n e = rw e
 
@@ -51,14 +51,14 @@ messages-enough (suc k) (suc j) l h g =
     messages-step k l n e ∙ (ap (λ (ms : List (List ℕ)). take n (drop 2 l) ∷ ms) same ∙ sym (messages-step j l n e))
 
 -- nothing, where no whole entry stands at the front ..
-pub messages-end : (l : List ℕ) → front_of l ≡ Front.Part → messages_in l ≡ []
+pub messages-end : (l : List ℕ) → front_of l ≡ None → messages_in l ≡ []
 messages-end l e = messages-stop (length l) l e
 
 pub messages-empty : (l : List ℕ) → length l ≤ 0 → messages_in l ≡ []
 messages-empty l h = messages-none (length l) l h
 
 -- .. and else its message, and those of what stands behind it
-pub messages-more : (l : List ℕ) (n : ℕ) → front_of l ≡ Front.Entry n → messages_in l ≡ take n (drop 2 l) ∷ messages_in (drop (n + 2) l)
+pub messages-more : (l : List ℕ) (n : ℕ) → front_of l ≡ Some n → messages_in l ≡ take n (drop 2 l) ∷ messages_in (drop (n + 2) l)
 messages-more l n e =
     let d = length-drop (n + 2) l in
     let same = messages-enough (length l) (length (drop (n + 2) l)) (drop (n + 2) l) (omega (arith, d)) (omega arith) in
@@ -69,7 +69,7 @@ pub record Behind (l : List ℕ) (n : ℕ) : Type 0 where
   pub entries : length (messages_in l) ≡ suc (length (messages_in (drop (n + 2) l)))
   pub bytes : entry_bytes (messages_in l) ≡ 2 + n + entry_bytes (messages_in (drop (n + 2) l))
 
-pub behind : (l : List ℕ) (n : ℕ) → front_of l ≡ Front.Entry n → Behind l n
+pub behind : (l : List ℕ) (n : ℕ) → front_of l ≡ Some n → Behind l n
 unfolding entry_bytes
 behind l n e =
     let m = messages-more l n e in

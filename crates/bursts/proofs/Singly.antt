@@ -1,5 +1,6 @@
 -- Messages fed singly, each given the output that is left: the history that the loop over a buffer's entries feeds, and its parts.
 -- Assumes nothing.
+use Rattle.std.specs.Prelude.{Option, Some, None}
 use Prim.Native.Nat.{ℕ, zero, suc, ◌+◌, ◌-◌, ◌≤◌}
 use mathlib.Core.Path.{◌≡◌, refl, sym, ap, ◌∙◌}
 use mathlib.Core.List.{List, [], ◌∷◌, ◌++◌, append_assoc}
@@ -8,7 +9,6 @@ use native.Mathlib.Omega.{arith}
 use borrow.Author.Tests.{le-leb}
 use lib.ListN.{length, drop, length-append, length-map}
 use Rattle.entries.specs.Entries.{front_of}
-use Rattle.entries.specs.declared.Front.{Front}
 use Rattle.receiver.specs.History.{Sent, messages_of, next, answer_to, wrote, after, written}
 use Rattle.receiver.specs.declared.Receiver.{Receiver}
 use Rattle.intake.specs.Feeding.{next_in, sent_from, fed_from, numbers_of, answers_to}
@@ -31,12 +31,12 @@ singly-length r ms room = sym (length-map (singly r ms room) (λ (x : Sent). x.m
 
 -- ---- with a place for each answer, the entries of a buffer are fed singly
 
-any-room : (l : List ℕ) (room : ℕ) (f : Front) → front_of l ≡ f → next_in 0 l room ≡ f
+any-room : (l : List ℕ) (room : ℕ) (f : Option ℕ) → front_of l ≡ f → next_in 0 l room ≡ f
 any-room l room f e = rw (le-leb 0 room (omega arith)) e
 
-fed-ended : (places : ℕ) (r : Receiver) (l : List ℕ) (room : ℕ) → front_of l ≡ Front.Part → fed_from 0 places r l room ≡ singly r (messages_in l) room
+fed-ended : (places : ℕ) (r : Receiver) (l : List ℕ) (room : ℕ) → front_of l ≡ None → fed_from 0 places r l room ≡ singly r (messages_in l) room
 unfolding singly
-fed-ended places r l room e = fed-none 0 places r l room (any-room l room Front.Part e) ∙ sym (ap (λ (ms : List (List ℕ)). singly r ms room) (messages-end l e))
+fed-ended places r l room e = fed-none 0 places r l room (any-room l room None e) ∙ sym (ap (λ (ms : List (List ℕ)). singly r ms room) (messages-end l e))
 
 pub fed-singly : (places : ℕ) (r : Receiver) (l : List ℕ) (room : ℕ) → length (messages_in l) ≤ places → fed_from 0 places r l room ≡ singly r (messages_in l) room
 unfolding singly
@@ -45,7 +45,7 @@ fed-singly (suc k) r l room h =
     in-front l (fed-ended (suc k) r l room) λ n e.
     let x : Sent = sent_from n l room in
     let more = fed-singly k (next r x) (drop (n + 2) l) (room - length (wrote r x)) (omega (arith, h, (behind l n e).entries)) in
-    fed-more 0 k r l room n (any-room l room (Front.Entry n) e)
+    fed-more 0 k r l room n (any-room l room (Some n) e)
     ∙ (ap (λ (t : List Sent). x ∷ t) more ∙ sym (ap (λ (ms : List (List ℕ)). singly r ms room) (messages-more l n e)))
 
 -- so what they write lies within the output

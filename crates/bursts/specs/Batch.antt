@@ -1,8 +1,7 @@
 -- Document 02, #102: "Take a buffer of bench-file entries and feed all to one receiver, with an answer per entry in a lent list."
-use Rattle.std.specs.Prelude.{ℕ, zero, suc, ◌+◌, ◌-◌, ◌/◌, ◌≡◌, Bool, true, false, cond, List, [], ◌∷◌, eqb, leb, length, take, drop}
+use Rattle.std.specs.Prelude.{ℕ, zero, suc, ◌+◌, ◌-◌, ◌/◌, ◌≡◌, Bool, true, false, cond, List, [], ◌∷◌, eqb, leb, length, take, drop, Option, Some, None}
 use Rattle.paper.specs.Refusals.{none, bad_batch}
 use Rattle.entries.specs.Entries.{front_of}
-use Rattle.entries.specs.declared.Front.{Front}
 use Rattle.receiver.specs.History.{Sent, next, wrote}
 use Rattle.receiver.specs.declared.Receiver.{Receiver}
 use Rattle.intake.specs.Feeding.{entry_bytes, answer_numbers, Feeds}
@@ -10,9 +9,9 @@ use Rattle.bursts.specs.declared.Batch.{Batch}
 
 -- ---- "a buffer of bench-file entries"
 
-abbrev pub with_message : Front → (ℕ → List (List ℕ)) → List (List ℕ)
-with_message (Front.Entry n) more = more n
-with_message Front.Part more = []
+abbrev pub with_message : Option ℕ → (ℕ → List (List ℕ)) → List (List ℕ)
+with_message (Some n) more = more n
+with_message None more = []
 
 -- the messages of the whole entries at its front, so many at most
 unfoldable pub messages_at : ℕ → List ℕ → List (List ℕ)

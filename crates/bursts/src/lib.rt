@@ -7,7 +7,7 @@ ghost use Rattle.receiver.specs.Receive.{of_parts};
 ghost use Rattle.intake.specs.Feeding.{entry_bytes};
 ghost use Rattle.bursts.specs.Batch.{messages_in, batched, ReceivesAll};
 
-use entries::Front;
+use paper::Refusal;
 use receiver::{Marks, Receiver};
 
 // What becomes of a batch: a refusal's number, 0 for none; how many entries were fed, and how many records they wrote.
@@ -48,16 +48,13 @@ fn count_entries(buffer: &[u8]) -> Counted
     let mut bytes: usize = 0;
     while bytes < buffer.len() {
         let next = entries::read_front(&buffer[bytes..]);
-        let Front::Entry(n) = next else {
+        let Some(n) = next else {
             break;
         };
         entries += 1;
         bytes = bytes + 2 + n;
     }
-    Counted {
-        entries: entries,
-        bytes: bytes,
-    }
+    Counted { entries, bytes }
 }
 
 // Whether a buffer's last entry is complete, and a list of so many numbers has a place for each answer.
@@ -87,18 +84,17 @@ pub fn receive_all_parts(
 {
     if !is_batch(buffer, answers.len()) {
         return BatchTurn {
-            marks: marks,
+            marks,
             batch: Batch {
-                refusal: paper::BAD_BATCH,
+                refusal: Refusal::BadBatch.number(),
                 entries: 0,
                 records: 0,
             },
         };
     }
     let fed = intake::feed_parts(marks, buffer, 0, answers, output, states, xs, ys, held);
-    let after = fed.marks;
     BatchTurn {
-        marks: after,
+        marks: fed.marks,
         batch: Batch {
             refusal: 0,
             entries: fed.entries,
@@ -131,9 +127,8 @@ pub fn receive_all(
         &mut ys,
         &mut held,
     );
-    let batch = turn.batch;
     ReceivedAll {
         receiver: receiver::of_parts(turn.marks, states, xs, ys, held),
-        batch: batch,
+        batch: turn.batch,
     }
 }

@@ -2,7 +2,7 @@
 // came of it; of records the refusal, how many choices there were, and each as a contact's id and an item.
 #![tactic(auto)]
 
-ghost use Rattle.std.specs.Prelude.{◌*◌, ◌≤◌, length};
+ghost use Rattle.std.specs.Prelude.{◌≤◌, length};
 ghost use Rattle.feed.specs.Within.{entry_most};
 
 use presses::{Button, Label};
@@ -24,15 +24,8 @@ const LINE_MOST: usize = 65536;
 #[derive(Clone, Copy)]
 struct Screen {
     label: Label,
-    buttons: [Button; 64],
+    buttons: [Button; LIST_MOST],
     count: usize,
-}
-
-// A screen after an entry, and where its line goes on.
-#[derive(Clone, Copy)]
-struct Told {
-    screen: Screen,
-    at: usize,
 }
 
 fn blank() -> Button {
@@ -47,32 +40,19 @@ fn blank() -> Button {
 }
 
 fn empty() -> Screen {
-    let none = blank();
     Screen {
         label: presses::fresh(),
-        buttons: [none; 64],
+        buttons: [blank(); LIST_MOST],
         count: 0,
     }
 }
 
-// A number of 32 bits in two's complement.
-fn signed(bits: u32) -> i32 {
-    if bits < 0x8000_0000 {
-        return bits as i32;
-    }
-    let below = (0xFFFF_FFFF - bits) as i32;
-    -1 - below
-}
-
 // Four bytes at a place, where there are so many.
-fn four_at(bytes: &[u8], at: usize) -> u32 {
-    if bytes.len() < 4 {
-        return 0;
-    }
-    if bytes.len() - 4 < at {
-        return 0;
-    }
-    entries::join_four(bytes[at], bytes[at + 1], bytes[at + 2], bytes[at + 3])
+fn four_at(bytes: &[u8], at: usize) -> [u8; 4] {
+    let Some([a, b, c, d, ..]) = bytes.get(at..) else {
+        return [0; 4];
+    };
+    [*a, *b, *c, *d]
 }
 
 // The button at the front.
@@ -81,123 +61,72 @@ fn button_of(bytes: &[u8]) -> Button {
         return blank();
     }
     Button {
-        item: four_at(bytes, 0),
-        left: signed(four_at(bytes, 4)),
-        top: signed(four_at(bytes, 8)),
-        right: signed(four_at(bytes, 12)),
-        bottom: signed(four_at(bytes, 16)),
+        item: u32::from_be_bytes(four_at(bytes, 0)),
+        left: i32::from_be_bytes(four_at(bytes, 4)),
+        top: i32::from_be_bytes(four_at(bytes, 8)),
+        right: i32::from_be_bytes(four_at(bytes, 12)),
+        bottom: i32::from_be_bytes(four_at(bytes, 16)),
         shown: bytes[20],
     }
 }
 
-// How many buttons there are, one behind the other: no more than a list has.
-fn count_of(bytes: &[u8]) -> usize
-    ensures { (result ≤ 64) × (21 * result ≤ length bytes.now) }
-{
-    let n = bytes.len() / BUTTON_BYTES;
-    if LIST_MOST < n {
-        return LIST_MOST;
-    }
-    n
-}
-
-fn list_of(bytes: &[u8]) -> [Button; 64] {
-    let none = blank();
-    let mut list = [none; 64];
-    let n = count_of(bytes);
-    let mut i: usize = 0;
-    while i < n {
-        list[i] = button_of(&bytes[BUTTON_BYTES * i..]);
-        i += 1;
+// The buttons that stand one behind the other: no more than a list has.
+fn list_of(bytes: &[u8]) -> [Button; LIST_MOST] {
+    let mut list = [blank(); LIST_MOST];
+    for (place, button) in list.iter_mut().zip(bytes.chunks_exact(BUTTON_BYTES)) {
+        *place = button_of(button);
     }
     list
 }
 
-// An entry that is no command.
-fn say_bad(page: &mut [u8], place: usize, screen: Screen) -> Told {
-    Told {
-        screen: screen,
-        at: lines::add_text(page, place, b" bad"),
-    }
+// An entry that is no command. Here and below: the screen after it, and where its line goes on.
+fn say_bad(page: &mut [u8], place: usize, screen: Screen) -> (Screen, usize) {
+    (screen, lines::add_text(page, place, b" bad"))
 }
 
 // A new list: all contacts are out.
-fn take_list(page: &mut [u8], place: usize, screen: Screen, bytes: &[u8]) -> Told {
-    let n = count_of(bytes);
-    if bytes.len() != BUTTON_BYTES * n {
+fn take_list(page: &mut [u8], place: usize, screen: Screen, bytes: &[u8]) -> (Screen, usize) {
+    let count = (bytes.len() / BUTTON_BYTES).min(LIST_MOST);
+    if bytes.len() != BUTTON_BYTES * count {
         return say_bad(page, place, screen);
     }
-    let list = list_of(bytes);
-    let next = Screen {
+    let listed = Screen {
         label: presses::fresh(),
-        buttons: list,
-        count: n,
+        buttons: list_of(bytes),
+        count,
     };
-    Told {
-        screen: next,
-        at: lines::add_text(page, place, b" set"),
-    }
+    (listed, lines::add_text(page, place, b" set"))
 }
 
 // A button of the list, shown or hidden.
-fn take_mark(page: &mut [u8], place: usize, screen: Screen, bytes: &[u8]) -> Told {
-    if bytes.len() != 3 {
+fn take_mark(page: &mut [u8], place: usize, screen: Screen, bytes: &[u8]) -> (Screen, usize) {
+    let [high, low, shown] = bytes else {
         return say_bad(page, place, screen);
-    }
-    let at = entries::join_two(bytes[0], bytes[1]) as usize;
-    if screen.count <= at {
-        return Told {
-            screen: screen,
-            at: lines::add_text(page, place, b" none"),
-        };
-    }
-    let buttons = screen.buttons;
-    let label = screen.label;
-    let marked = lent_list::set_shown_lent(buttons, at, bytes[2]);
-    let list = marked.buttons;
-    let next = Screen {
-        label: label,
-        buttons: list,
-        count: screen.count,
     };
-    Told {
-        screen: next,
-        at: lines::add_text(page, place, b" set"),
-    }
+    let at = entries::join_two(*high, *low) as usize;
+    let marked = if at < screen.count {
+        lent_list::set_shown_lent(screen.buttons, at, *shown)
+    } else {
+        None
+    };
+    let Some(buttons) = marked else {
+        return (screen, lines::add_text(page, place, b" none"));
+    };
+    let next = Screen { buttons, ..screen };
+    (next, lines::add_text(page, place, b" set"))
 }
 
-fn add_item(page: &mut [u8], at: usize, item: u32) -> usize {
-    lines::add_number(page, at, item as u64)
-}
-
-// The first n choices of a list.
+// The first n choices of a list, two numbers each.
 fn add_choices(page: &mut [u8], place: usize, choices: &[u32], n: usize) -> usize {
     let mut at = place;
-    let mut i: usize = 0;
-    while i < n {
-        if choices.len() / 2 <= i {
-            return at;
+    for choice in choices.chunks_exact(2).take(n) {
+        if let [id, item] = choice {
+            at = lines::add_count(page, at, *id);
+            at = lines::add_byte(page, at, b':');
+            at = lines::add_number(page, at, *item as u64);
         }
-        let id = lines::add_count(page, at, choices[2 * i]);
-        let item = lines::add_byte(page, id, b':');
-        at = add_item(page, item, choices[2 * i + 1]);
-        i += 1;
     }
     at
-}
-
-// How many choices are lent of those that an entry asks for.
-fn room_of(bytes: &[u8]) -> usize
-    ensures { result ≤ 4096 }
-{
-    if bytes.len() < 2 {
-        return 0;
-    }
-    let room = entries::join_two(bytes[0], bytes[1]) as usize;
-    if ROOM_MOST < room {
-        return ROOM_MOST;
-    }
-    room
 }
 
 // Records, with room for so many choices.
@@ -207,30 +136,28 @@ fn take_records(
     screen: Screen,
     bytes: &[u8],
     choices: &mut [u32],
-) -> Told {
-    let room = 2 * room_of(bytes);
-    if bytes.len() < 2 {
+) -> (Screen, usize) {
+    let [high, low, records @ ..] = bytes else {
         return say_bad(page, place, screen);
-    }
+    };
+    let room = 2 * (entries::join_two(*high, *low) as usize).min(ROOM_MOST);
     if choices.len() < room {
         return say_bad(page, place, screen);
     }
-    let label = screen.label;
-    let buttons = screen.buttons;
-    let chosen = lent_list::choose_lent(label, buttons, &bytes[2..], &mut choices[..room]);
-    let kept = chosen.label;
+    let chosen = lent_list::choose_lent(
+        screen.label,
+        screen.buttons,
+        records,
+        &mut choices[..room],
+    );
     let refused = lines::add_field(page, place, chosen.refusal as u64);
     let counted = lines::add_field(page, refused, chosen.count as u64);
     let at = add_choices(page, counted, choices, chosen.count);
     let next = Screen {
-        label: kept,
-        buttons: buttons,
-        count: screen.count,
+        label: chosen.label,
+        ..screen
     };
-    Told {
-        screen: next,
-        at: at,
-    }
+    (next, at)
 }
 
 // What an entry asks for, carried out and said.
@@ -240,14 +167,11 @@ fn take_entry(
     screen: Screen,
     entry: &[u8],
     choices: &mut [u32],
-) -> Told {
-    if entry.len() == 0 {
-        return say_bad(page, place, screen);
-    }
-    match entry[0] {
-        1 => take_list(page, place, screen, &entry[1..]),
-        2 => take_mark(page, place, screen, &entry[1..]),
-        3 => take_records(page, place, screen, &entry[1..], choices),
+) -> (Screen, usize) {
+    match entry {
+        [1, bytes @ ..] => take_list(page, place, screen, bytes),
+        [2, bytes @ ..] => take_mark(page, place, screen, bytes),
+        [3, bytes @ ..] => take_records(page, place, screen, bytes, choices),
         _ => say_bad(page, place, screen),
     }
 }
@@ -259,14 +183,14 @@ fn run(space: &mut [u8], page: &mut [u8], choices: &mut [u32])
 {
     let mut screen = empty();
     let mut stand = turns::begin();
-    while stand.number < 0xFFFF_FFFF_FFFF_FFFF {
+    for _ in 1..u64::MAX {
         let turn = turns::next_turn(space, page, stand, LINE_MOST);
         let Turn::Entry(from, to, line) = turn else {
             return;
         };
-        let told = take_entry(page, line.at, screen, &space[from..to], choices);
-        screen = told.screen;
-        stand = turns::end_line(page, line, told.at);
+        let (next, at) = take_entry(page, line.at, screen, &space[from..to], choices);
+        screen = next;
+        stand = turns::end_line(page, line, at);
     }
 }
 

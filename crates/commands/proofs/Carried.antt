@@ -7,12 +7,12 @@ use mathlib.Core.List.{List, [], ◌∷◌, ◌++◌}
 use native.Mathlib.Omega.{arith}
 use lib.Dec.{leb}
 use lib.ListN.{length, take, drop, length-append, take-append-drop}
-use borrow.Author.Tests.{leb-true}
+use borrow.Author.Tests.{leb-true, ne_eqb}
 use Rattle.slices.proofs.Laws.{given-few}
 use Rattle.panels.specs.Panel.{Sending, Sends, ready_sending, touch_sending, dismiss_sending}
 use Rattle.panels.specs.declared.Panel.{Panel}
 use Rattle.sending.specs.declared.Outgoing.{Outgoing}
-use Rattle.commands.specs.Commands.{Command, arrives, declares, touches, dismisses, unknown, command_of, lent_of, Lends, Obeys}
+use Rattle.commands.specs.Commands.{Command, arrives, declares, touches, dismisses, unknown, kind_of, command_of, lent_of, Lends, Obeys}
 use Rattle.commands.specs.declared.Obeyed.{Obeyed}
 
 pub lent-inside : (room all n : ℕ) → n ≡ lent_of room all → n ≤ all
@@ -34,6 +34,11 @@ pub command-none : (l : List ℕ) → length l ≡ 0 → command_of l ≡ unknow
 unfolding command_of
 command-none [] h = refl
 command-none (x ∷ l) h = absurd (omega arith)
+
+-- nor where the first byte is of none
+pub command-other : (l : List ℕ) → (kind_of l ≡ 1 → ⊥) → (kind_of l ≡ 2 → ⊥) → (kind_of l ≡ 3 → ⊥) → (kind_of l ≡ 6 → ⊥) → command_of l ≡ unknown
+unfolding command_of
+command-other l h i j k = rw (ne_eqb _ _ h, ne_eqb _ _ i, ne_eqb _ _ j, ne_eqb _ _ k)
 
 -- ---- no more is written than the output has
 

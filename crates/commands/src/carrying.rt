@@ -20,7 +20,7 @@ pub(crate) fn pass_over(panel: Panel) -> Obeyed
     ensures { result ≡ passed_over panel }
 {
     Obeyed {
-        panel: panel,
+        panel,
         known: false,
         written: Written {
             refusal: 0,
@@ -33,12 +33,10 @@ pub(crate) fn pass_over(panel: Panel) -> Obeyed
 fn told(outgoing: Outgoing) -> Obeyed
     ensures { result ≡ record { panel = outgoing.panel; known = true; written = outgoing.written } }
 {
-    let panel = outgoing.panel;
-    let written = outgoing.written;
     Obeyed {
-        panel: panel,
+        panel: outgoing.panel,
         known: true,
-        written: written,
+        written: outgoing.written,
     }
 }
 
@@ -47,9 +45,8 @@ pub(crate) fn arrive(panel: Panel, message: &[u8]) -> Obeyed
     ensures { (d : List ℕ) → Obeys panel (arrives message.now) result d d }
 {
     let arrived = sending::take(panel, message);
-    let after = arrived.panel;
     Obeyed {
-        panel: after,
+        panel: arrived.panel,
         known: true,
         written: Written {
             refusal: arrived.refusal,

@@ -31,21 +31,14 @@ pub struct Obeyed {
 pub fn obey(panel: Panel, entry: &[u8], out: &mut [u8]) -> Obeyed
     ensures { Obeys panel (command_of entry.now) result out.old out.new }
 {
-    if entry.len() == 0 {
+    if entry.is_empty() {
         return pass_over(panel);
     }
-    let kind = entry[0];
-    if kind == ARRIVAL {
-        return arrive(panel, &entry[1..]);
+    match entry[0] {
+        ARRIVAL => arrive(panel, &entry[1..]),
+        READY => declare(panel, entry, out),
+        TOUCH => touch(panel, entry, out),
+        DISMISSAL => dismiss(panel, entry, out),
+        _ => pass_over(panel),
     }
-    if kind == READY {
-        return declare(panel, entry, out);
-    }
-    if kind == TOUCH {
-        return touch(panel, entry, out);
-    }
-    if kind == DISMISSAL {
-        return dismiss(panel, entry, out);
-    }
-    pass_over(panel)
 }

@@ -19,10 +19,7 @@ pub(crate) fn lent_of(entry: &[u8], all: usize) -> usize
     ensures { result ≡ lent_of (room_in entry.now) all }
 {
     let room = room_in(entry) as usize;
-    if room <= all {
-        return room;
-    }
-    all
+    room.min(all)
 }
 
 // What a client ready is to declare.

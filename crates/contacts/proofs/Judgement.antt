@@ -8,22 +8,22 @@ use native.Mathlib.Omega.{arith}
 use borrow.Author.Tests.{le-leb}
 use lib.Dec.{leb}
 use lib.IntN.{ℤ}
-use lib.ListN.{length, get_or}
+use lib.ListN.{get_or}
+use Rattle.std.specs.Prelude.{Option, Some, None}
 use Rattle.formats.specs.Format.{Got, got, bad}
 use Rattle.states.specs.Table.{out, next}
 use Rattle.house.specs.declared.Contact.{Contact}
-use Rattle.machine.specs.Table.{Table, contacts, resting, state_at, place_at, active, one, count_active}
+use Rattle.machine.specs.Table.{Table, resting, state_at, place_at, active, one, count_active}
 use Rattle.machine.specs.Rules.{Rules}
 use Rattle.machine.specs.Conforms.{every, distinct, table_after, conforms}
 use Rattle.machine.specs.Machine.{Verdict, injected, ignored, cancelled, verdict_by}
 use Rattle.contacts.specs.Touch.{touch_view, touch_rules}
-use Rattle.contacts.specs.Ruling.{of_read, table_from, legal_in, stays_in, allowed_in, came, gone, unlawful, surveyed, CountsActive, Counted, judged_as, refused, judged_of, ruling_as, ruling_of, unread, judged_on, judged_from, ruling_by}
+use Rattle.contacts.specs.Ruling.{of_read, table_from, legal_in, stays_in, allowed_in, came, gone, surveyed, Counted, judged_as, judged_of, ruling_as, ruling_of, unread, judged_on, judged_from, ruling_by}
 use Rattle.contacts.specs.declared.Survey.{Survey}
-use Rattle.contacts.specs.declared.Judged.{Judged}
 use Rattle.contacts.specs.declared.Ruling.{Ruling}
 use Rattle.machine.proofs.Conforms.{in_table, both_left, every-both, every_true}
 use Rattle.contacts.proofs.Counting.{after-count}
-use Rattle.machine.proofs.Table.{resting-whole, resting-count, count-all}
+use Rattle.machine.proofs.Table.{resting-whole, resting-count}
 
 -- one contact more, counted
 module _ (states : List ℕ) (a r : ℕ) (c : Contact) where
@@ -45,7 +45,7 @@ nest false l s p f h = refl
 
 module _ (most : ℕ) (states : List ℕ) (xs ys : List ℤ) where
   -- of what one pass over them finds
-  pub judged-on-read : (k : ℕ) (x : Got (List Contact)) (v : Survey) → v ≡ of_read unlawful (surveyed states xs ys) x → judged_on most k v ≡ judged_from most k (table_from states xs ys) x
+  pub judged-on-read : (k : ℕ) (x : Got (List Contact)) (v : Option Survey) → v ≡ of_read None (surveyed states xs ys) x → judged_on most k v ≡ judged_from most k (table_from states xs ys) x
   unfolding judged_on
   judged-on-read k (got cs t) v e = rw e
   judged-on-read k (bad y) v e = rw e
@@ -66,7 +66,7 @@ module _ (most : ℕ) (states : List ℕ) (xs ys : List ℤ) where
   module _ (k : ℕ) (q : Counted k states) where
     -- where the pass finds nothing: so many come and so many go as the table says
     lawful-count : (cs : List Contact) → distinct touch_view cs ≡ true → every (in_table touch_view) cs ≡ true
-        → cond (leb (gone states cs) (k + came next states cs)) (judged_as most (k + came next states cs - gone states cs)) refused ≡ judged_as most (after cs)
+        → cond (leb (gone states cs) (k + came next states cs)) (judged_as most (k + came next states cs - gone states cs)) None ≡ judged_as most (after cs)
     lawful-count cs d i =
         let n = after-count next (table_from states xs ys) cs d i q.all in
         let m : k + came next states cs - gone states cs ≡ after cs = omega (arith, n, q.same) in
@@ -74,14 +74,14 @@ module _ (most : ℕ) (states : List ℕ) (xs ys : List ℤ) where
 
     -- a judgement is what the rules say, where the number of active contacts is the table's
     pub judged-as-the-rules-say : (x : Got (List Contact)) → of_read true (every (in_table touch_view)) x ≡ true
-        → judged_from most k (table_from states xs ys) x ≡ of_read refused (judged_of (touch_rules most) (table_from states xs ys)) x
+        → judged_from most k (table_from states xs ys) x ≡ of_read None (judged_of (touch_rules most) (table_from states xs ys)) x
     unfolding judged_of judged_on surveyed
     judged-as-the-rules-say (bad y) i = refl
     judged-as-the-rules-say (got cs t) i = rw (conforming cs) (go (cond (distinct touch_view cs) (every (allowed_in states xs ys) cs) false) refl)
       where
         go : (b : Bool) → cond (distinct touch_view cs) (every (allowed_in states xs ys) cs) false ≡ b
-            → judged_on most k (cond b (record { lawful = true; came = came next states cs; gone = gone states cs }) unlawful)
-            ≡ cond (cond b (leb (after cs) most) false) (record { conforms = true; active = after cs }) refused
+            → judged_on most k (cond b (Some (record { came = came next states cs; gone = gone states cs })) None)
+            ≡ cond (cond b (leb (after cs) most) false) (Some (after cs)) None
         go true w = lawful-count cs (both_left (distinct touch_view cs) _ w) i
         go false w = refl
 
@@ -91,25 +91,16 @@ module _ (most : ℕ) (states : List ℕ) (xs ys : List ℤ) where
     unfolding judged_of ruling_of
     ruled-as-the-rules-say judged x i = ap (ruling_by judged) (judged-as-the-rules-say x i) ∙ go judged x
       where
-        one : (b : Bool) (n : ℕ) → ruling_by true (cond b (record { conforms = true; active = n }) refused) ≡ ruling_as (cond b injected cancelled) n
+        one : (b : Bool) (n : ℕ) → ruling_by true (cond b (Some n) None) ≡ ruling_as (cond b injected cancelled) n
         one true n = refl
         one false n = refl
 
-        go : (judged : Bool) (x : Got (List Contact)) → ruling_by judged (of_read refused (judged_of (touch_rules most) (table_from states xs ys)) x)
+        go : (judged : Bool) (x : Got (List Contact)) → ruling_by judged (of_read None (judged_of (touch_rules most) (table_from states xs ys)) x)
             ≡ of_read (unread judged) (ruling_of judged (touch_rules most) (table_from states xs ys)) x
         go true (got cs t) = one (conforms touch_view (touch_rules most) (table_from states xs ys) cs) (after cs)
         go true (bad y) = refl
         go false (got cs t) = refl
         go false (bad y) = refl
-
--- ---- the ruling of a frame that is judged, by whether it conforms
-
-module _ (j i : Judged) (e : j ≡ i) where
-  pub rules-in : j.conforms ≡ true → Ruling.Injected j.active ≡ ruling_by true i
-  rules-in h = sym (ap (λ (b : Bool). cond b (Ruling.Injected j.active) Ruling.Cancelled) h) ∙ ap (ruling_by true) e
-
-  pub rules-out : j.conforms ≡ false → Ruling.Cancelled ≡ ruling_by true i
-  rules-out h = sym (ap (λ (b : Bool). cond b (Ruling.Injected j.active) Ruling.Cancelled) h) ∙ ap (ruling_by true) e
 
 -- ---- what a caller learns of a ruling
 
@@ -149,9 +140,6 @@ module _ (judged : Bool) (rules : Rules Contact) (t : Table) (cs : List Contact)
       go ignored e = absurd (let z : ◌≡◌ {A = ℕ} 0 1 = cc in omega arith)
       go cancelled e = refl
 
--- the count that `count_active` answers, and the counts after frames, are the table's
-pub counted : (states : List ℕ) (r : ℕ) → length states ≡ contacts → CountsActive states r → Counted r states
-counted states r h c = record { all = h; same = c.same ∙ count-all states h }
-
+-- a table at rest has none active
 pub counted-resting : Counted 0 resting.states
 counted-resting = record { all = resting-whole.states; same = sym resting-count }

@@ -1,18 +1,23 @@
 -- The contacts that a loop reads one after the other: what is said of those that are left is what is said of all.
 -- Assumes nothing.
-use Prim.Native.Nat.{ℕ, zero, suc, ◌-◌, ◌≤◌, ◌<◌}
-use mathlib.Core.Path.{◌≡◌, refl, ap, ◌∙◌}
+use Prim.Native.Nat.{ℕ, zero, suc, ◌≤◌, ◌<◌}
+use mathlib.Core.Path.{◌≡◌, refl, sym, ap, ◌∙◌}
 use mathlib.Core.Bool.{Bool, true, false}
-use mathlib.Core.List.{List, [], ◌∷◌}
-use native.Mathlib.Numerals.{sub-one}
+use Rattle.std.specs.Prelude.{Option, Some, None, Result, Ok, Err}
+use Rattle.std.specs.Borrow.{Bor}
+use Rattle.std.specs.Result.{result_ok}
+use Rattle.paper.specs.Refusals.{number}
+use Rattle.paper.specs.declared.Refusal.{Refusal}
+use Rattle.formats.specs.Answer.{read_of}
 use native.Mathlib.Omega.{arith}
-use lib.ListN.{drop}
+use mathlib.Core.List.{List, [], ◌∷◌}
 use borrow.Author.Tests.{lt-ltb}
 use Rattle.digits.specs.Digits.{Bytes}
 use Rattle.formats.specs.Format.{Got, got, bad, and_then, Format, read_series, Each}
 use Rattle.formats.proofs.Laws.{Law, times-law}
-use Rattle.formats.proofs.Steps.{Stepped, series-end, series-bad}
+use Rattle.formats.proofs.Steps.{series-end, series-bad}
 use Rattle.fields.specs.Integers.{taken}
+use Rattle.framing.specs.After.{on_read}
 use Rattle.fields.proofs.Laws.{taken-law}
 use Rattle.house.specs.declared.Contact.{Contact}
 use Rattle.touch.specs.Touch.{contact}
@@ -25,33 +30,45 @@ use Rattle.contacts.specs.Touch.{touch_view}
 use Rattle.contacts.specs.Ruling.{source, contacts_by, of_read}
 use Rattle.machine.proofs.Conforms.{in_table}
 
-module _ (format : Format Contact) {A : Type 0} (z : A) (f : List Contact → A) where
-  pub read-end : (k : ℕ) (l : List ℕ) → k ≤ 0 → of_read z f (contacts_by format k l) ≡ f []
-  read-end k l h = ap (of_read z f) (series-end (λ b. format.read) false k l h)
+never-none : {A B : Type 0} {a : A} → ◌≡◌ {A = Option A} None (Some a) → B
+never-none h = absurd (let z : ◌≡◌ {A = ℕ} 0 1 = cc in omega arith)
 
-  pub read-bad : (k : ℕ) (l : List ℕ) (e : ℕ) → 0 < k → format.read l ≡ bad e → of_read z f (contacts_by format k l) ≡ z
-  read-bad k l e h w = ap (of_read z f) (series-bad (λ b. format.read) false k l e h w)
+-- .. and what is read where a value is kept
+pub kept : {A : Type 0} (x : Got A) (r : Result (A × Bor (List ℕ)) Refusal) (a : A) (t : Bor (List ℕ)) → read_of r ≡ x → result_ok r ≡ Some (a, t) → x ≡ got a t.now
+kept {A} x (Ok b) a t h w = sym h ∙ ap (λ (p : A × Bor (List ℕ)). got p.0 p.1.now) (let e : b ≡ (a, t) = cc in e)
+kept x (Err e) a t h w = never-none w
+
+module _ (format : Format Contact) {A : Type 0} (z : A) (f : List Contact → List ℕ → A) where
+  pub read-end : (k : ℕ) (l : List ℕ) → k ≤ 0 → on_read z f (contacts_by format k l) ≡ f [] l
+  read-end k l h = ap (on_read z f) (series-end (λ b. format.read) false k l h)
+
+  pub read-bad : (k : ℕ) (l : List ℕ) (e : ℕ) → 0 < k → format.read l ≡ bad e → on_read z f (contacts_by format k l) ≡ z
+  read-bad k l e h w = ap (on_read z f) (series-bad (λ b. format.read) false k l e h w)
+
+  -- .. of an answer of which only the value is kept
+  pub read-stop : (k : ℕ) (l : List ℕ) (r : Result (Contact × Bor (List ℕ)) Refusal) → 0 < k → read_of r ≡ format.read l → result_ok r ≡ None → on_read z f (contacts_by format k l) ≡ z
+  read-stop k l (Ok b) h e w = never-none (sym w)
+  read-stop k l (Err x) h e w = read-bad k l (number x) h (sym e)
 
   -- a contact and the others: g says of the others what f says of all
-  front : (g : List Contact → A) (c : Contact) → ((cs : List Contact) → f (c ∷ cs) ≡ g cs) → (x : Got (List Contact))
-      → of_read z f (and_then x (λ cs u. got (c ∷ cs) u)) ≡ of_read z g x
-  front g c h (got cs t) = h cs
+  front : (g : List Contact → List ℕ → A) (c : Contact) → ((cs : List Contact) (u : List ℕ) → f (c ∷ cs) u ≡ g cs u) → (x : Got (List Contact))
+      → on_read z f (and_then x (λ cs u. got (c ∷ cs) u)) ≡ on_read z g x
+  front g c h (got cs u) = h cs u
   front g c h (bad e) = refl
 
-  pub read-on : (g : List Contact → A) (k at next : ℕ) (s : List ℕ) (c : Contact) → 0 < k → Stepped format s at c next
-      → ((cs : List Contact) → f (c ∷ cs) ≡ g cs) → of_read z f (contacts_by format k (drop at s)) ≡ of_read z g (contacts_by format (k - 1) (drop next s))
+  pub read-on : (g : List Contact → List ℕ → A) (k m : ℕ) (l : List ℕ) (c : Contact) (t : List ℕ) → k ≡ suc m → format.read l ≡ got c t
+      → ((cs : List Contact) (u : List ℕ) → f (c ∷ cs) u ≡ g cs u) → on_read z f (contacts_by format k l) ≡ on_read z g (contacts_by format m t)
   unfolding read_series
-  read-on g zero at next s c h w e = absurd (omega arith)
-  read-on g (suc k) at next s c h w e = rw (w.reads, sub-one) (front g c e (contacts_by format k (drop next s)))
+  read-on g k m l c t h w e = rw (h, w) (front g c e (contacts_by format m t))
 
   -- the contact decides
-  settled : (x : Got (List Contact)) → of_read z (λ cs. z) x ≡ z
-  settled (got cs t) = refl
+  settled : (x : Got (List Contact)) → on_read z (λ cs u. z) x ≡ z
+  settled (got cs u) = refl
   settled (bad e) = refl
 
-  pub read_off : (k at next : ℕ) (s : List ℕ) (c : Contact) → 0 < k → Stepped format s at c next
-      → ((cs : List Contact) → f (c ∷ cs) ≡ z) → of_read z f (contacts_by format k (drop at s)) ≡ z
-  read_off k at next s c h w e = read-on (λ cs. z) k at next s c h w e ∙ settled (contacts_by format (k - 1) (drop next s))
+  pub read_off : (k m : ℕ) (l : List ℕ) (c : Contact) (t : List ℕ) → k ≡ suc m → format.read l ≡ got c t
+      → ((cs : List Contact) (u : List ℕ) → f (c ∷ cs) u ≡ z) → on_read z f (contacts_by format k l) ≡ z
+  read_off k m l c t h w e = read-on (λ cs u. z) k m l c t h w e ∙ settled (contacts_by format m t)
 
 -- two tests that agree
 pub read_same : {A : Type 0} (z : A) (f g : List Contact → A) → ((cs : List Contact) → f cs ≡ g cs) → (x : Got (List Contact)) → of_read z f x ≡ of_read z g x

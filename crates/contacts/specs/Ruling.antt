@@ -1,7 +1,8 @@
 -- What the code answers for a frame: of the contacts as they are read, and of a table as it is lent.
-use Rattle.std.specs.Prelude.{ℕ, ◌+◌, ◌-◌, ◌≤◌, ◌≡◌, Bool, true, false, cond, List, [], ◌∷◌, leb, ℤ, length, get_or, take}
-use Rattle.formats.specs.Format.{Got, got, bad, Format, times}
+use Rattle.std.specs.Prelude.{ℕ, ◌+◌, ◌-◌, ◌≡◌, Bool, false, cond, List, [], ◌∷◌, leb, ℤ, length, get_or, Option, Some, None}
+use Rattle.formats.specs.Format.{Got, Format, times}
 use Rattle.fields.specs.Integers.{taken}
+use Rattle.framing.specs.After.{on_read}
 use Rattle.states.specs.Table.{out, next}
 use Rattle.house.specs.declared.Contact.{Contact}
 use Rattle.touch.specs.Touch.{contact}
@@ -12,7 +13,6 @@ use Rattle.machine.specs.Conforms.{every, distinct, legal, stays, table_after, c
 use Rattle.machine.specs.Machine.{Arrays, Verdict, injected, ignored, cancelled, verdict_by}
 use Rattle.contacts.specs.Touch.{touch_view}
 use Rattle.contacts.specs.declared.Survey.{Survey}
-use Rattle.contacts.specs.declared.Judged.{Judged}
 use Rattle.contacts.specs.declared.Ruling.{Ruling}
 
 -- where contacts are read: in the records of frames, or in a message
@@ -29,8 +29,7 @@ contacts_of n l = contacts_by (contact taken) n l
 
 -- what is said of the contacts that are read, and z where they are not all there
 abbrev pub of_read : {A : Type 0} → A → (List Contact → A) → Got (List Contact) → A
-of_read z f (got cs t) = f cs
-of_read z f (bad e) = z
+of_read z f = on_read z (λ cs t. f cs)
 
 -- a table as it is lent
 abbrev pub table_from : List ℕ → List ℤ → List ℤ → Table
@@ -61,18 +60,10 @@ unfoldable pub gone : List ℕ → List Contact → ℕ
 gone states [] = 0
 gone states (c ∷ cs) = one (active (get_or states c.id out)) + gone states cs
 
--- what one pass over the contacts finds, and what it finds of a frame that breaks a rule
-abbrev pub unlawful : Survey
-unlawful = record { lawful = false; came = 0; gone = 0 }
-
-unfoldable pub surveyed : List ℕ → List ℤ → List ℤ → List Contact → Survey
+-- what one pass over the contacts finds; nothing of a frame that breaks a rule
+unfoldable pub surveyed : List ℕ → List ℤ → List ℤ → List Contact → Option Survey
 surveyed states xs ys cs =
-    cond (cond (distinct touch_view cs) (every (allowed_in states xs ys) cs) false) (record { lawful = true; came = came next states cs; gone = gone states cs }) unlawful
-
--- the answer of a count: of 256 states, as many as a table has
-pub record CountsActive (states : List ℕ) (r : ℕ) : Type 0 where
-  pub same : r ≡ count_active (take contacts states)
-  pub small : r ≤ contacts
+    cond (cond (distinct touch_view cs) (every (allowed_in states xs ys) cs) false) (Some (record { came = came next states cs; gone = gone states cs })) None
 
 -- the number of active contacts, given beside the 256 states
 pub record Counted (k : ℕ) (states : List ℕ) : Type 0 where
@@ -81,17 +72,13 @@ pub record Counted (k : ℕ) (states : List ℕ) : Type 0 where
 
 -- ---- the answers
 
--- a frame that does not conform
-abbrev pub refused : Judged
-refused = record { conforms = false; active = 0 }
-
 -- so many active contacts, where they are not too many
-abbrev pub judged_as : ℕ → ℕ → Judged
-judged_as most k = cond (leb k most) (record { conforms = true; active = k }) refused
+abbrev pub judged_as : ℕ → ℕ → Option ℕ
+judged_as most k = cond (leb k most) (Some k) None
 
--- whether a frame conforms, and how many contacts are active after it if it does
-unfoldable pub judged_of : Rules Contact → Table → List Contact → Judged
-judged_of rules t cs = cond (conforms touch_view rules t cs) (record { conforms = true; active = count_active (table_after touch_view rules.next t cs).states }) refused
+-- how many contacts are active after a frame that conforms
+unfoldable pub judged_of : Rules Contact → Table → List Contact → Option ℕ
+judged_of rules t cs = cond (conforms touch_view rules t cs) (Some (count_active (table_after touch_view rules.next t cs).states)) None
 
 -- a verdict, with the number of active contacts after an injected frame
 abbrev pub ruling_as : Verdict → ℕ → Ruling
@@ -109,13 +96,19 @@ unread judged = cond judged Ruling.Cancelled Ruling.Ignored
 -- ---- the promises, of contacts that are read as x; the number of active contacts is the one that is given, whether it is the table's or not
 
 -- of what one pass found: nothing more is asked of a frame that breaks a rule, nor where more contacts would go than there are
-unfoldable pub judged_on : ℕ → ℕ → Survey → Judged
-judged_on most active v = cond v.lawful (cond (leb v.gone (active + v.came)) (judged_as most (active + v.came - v.gone)) refused) refused
+unfoldable pub judged_on : ℕ → ℕ → Option Survey → Option ℕ
+judged_on most active (Some v) = cond (leb v.gone (active + v.came)) (judged_as most (active + v.came - v.gone)) None
+judged_on most active None = None
 
 -- .. of the contacts themselves
-abbrev pub judged_from : ℕ → ℕ → Table → Got (List Contact) → Judged
-judged_from most active t x = of_read refused (λ cs. judged_on most active (surveyed t.states t.xs t.ys cs)) x
+abbrev pub judged_from : ℕ → ℕ → Table → Got (List Contact) → Option ℕ
+judged_from most active t x = of_read None (λ cs. judged_on most active (surveyed t.states t.xs t.ys cs)) x
 
--- what becomes of a frame, which is judged or is not
-abbrev pub ruling_by : Bool → Judged → Ruling
-ruling_by judged j = cond judged (cond j.conforms (Ruling.Injected j.active) Ruling.Cancelled) Ruling.Ignored
+-- what becomes of a frame that is judged
+abbrev pub ruled : Option ℕ → Ruling
+ruled (Some k) = Ruling.Injected k
+ruled None = Ruling.Cancelled
+
+-- .. of a frame, which is judged or is not
+abbrev pub ruling_by : Bool → Option ℕ → Ruling
+ruling_by judged j = cond judged (ruled j) Ruling.Ignored

@@ -3,32 +3,23 @@ ghost use Rattle.std.specs.Prelude.{◌≡◌};
 ghost use Rattle.contacts.specs.Ruling.{source, contacts_by, contacts_of, table_from, judged_on, judged_from, ruling_by};
 
 use crate::scan::survey;
-use crate::{Judged, Ruling, Survey};
+use crate::{Ruling, Survey};
 
-// What is found of a frame decides, and then the count: at most so many contacts are active after it.
-fn settle(found: Survey, active: u16, most: u16) -> Judged
+// How many contacts are active after a frame, by what was found of it: where a rule was not broken, and they are not too many.
+fn settle(found: Option<Survey>, active: u16, most: u16) -> Option<u16>
     ensures { result ≡ judged_on most active found }
 {
+    let found = found?;
     let came = active as u32 + found.came as u32;
-    let gone = found.gone as u32;
-    if found.lawful {
-        if gone <= came {
-            let after = came - gone;
-            if after <= most as u32 {
-                return Judged {
-                    conforms: true,
-                    active: after as u16,
-                };
-            }
-        }
+    let after = came.checked_sub(found.gone as u32)?;
+    if after <= most as u32 {
+        return Some(after as u16);
     }
-    Judged {
-        conforms: false,
-        active: 0,
-    }
+    None
 }
 
-// Whether a frame of n contacts conforms, read in records or in a message, of a table with so many active contacts.
+// How many contacts are active after a frame of n contacts that conforms, read in records or in a message, of a table with so many; none of one
+// that does not.
 pub fn judge(
     rest: &[u8],
     n: u16,
@@ -38,7 +29,7 @@ pub fn judge(
     ys: &[i32; 256],
     most: u16,
     active: u16,
-) -> Judged
+) -> Option<u16>
     ensures { result ≡ judged_from most active (table_from states.now xs.now ys.now) (contacts_by (source recorded) n rest.now) }
 {
     let found = survey(rest, n, recorded, states, xs, ys);
@@ -58,12 +49,11 @@ pub fn verdict_of(
 ) -> Ruling
     ensures { result ≡ ruling_by judged (judged_from most active (table_from states.now xs.now ys.now) (contacts_of n rest.now)) }
 {
-    if judged {
-        let found = judge(rest, n, false, states, xs, ys, most, active);
-        if found.conforms {
-            return Ruling::Injected(found.active);
-        }
-        return Ruling::Cancelled;
+    if !judged {
+        return Ruling::Ignored;
     }
-    Ruling::Ignored
+    match judge(rest, n, false, states, xs, ys, most, active) {
+        Some(after) => Ruling::Injected(after),
+        None => Ruling::Cancelled,
+    }
 }

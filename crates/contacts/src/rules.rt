@@ -1,7 +1,6 @@
 // The rules that a contact of a frame obeys.
 ghost use Rattle.std.specs.Prelude.{◌≡◌, []};
 ghost use Rattle.machine.specs.Table.{place_at};
-ghost use Rattle.tables.specs.Same.{same_number};
 ghost use Rattle.machine.specs.Conforms.{lifts, same_place};
 ghost use Rattle.contacts.specs.Ruling.{table_from, legal_in, stays_in, allowed_in};
 
@@ -19,18 +18,7 @@ fn is_legal(contact: Contact, states: &[u8; 256]) -> bool
 fn is_lift(flags: u8) -> bool
     ensures { result ≡ lifts flags }
 {
-    match flags {
-        0x0C => true,
-        0x04 => true,
-        0x24 => true,
-        _ => false,
-    }
-}
-
-fn same_number(a: i32, b: i32) -> bool
-    ensures { result ≡ same_number a b }
-{
-    a == b
+    matches!(flags, 0x0C | 0x04 | 0x24)
 }
 
 // Whether a position is the stored one of an id.
@@ -38,21 +26,15 @@ fn is_stored(place: Point, id: u8, xs: &[i32; 256], ys: &[i32; 256]) -> bool
     ensures { result ≡ same_place place (place_at (table_from [] xs.now ys.now) id) }
 {
     let i = id as usize;
-    if same_number(place.x, xs[i]) {
-        return same_number(place.y, ys[i]);
-    }
-    false
+    place.x == xs[i] && place.y == ys[i]
 }
 
 // Whether a contact obeys the rule of positions.
 fn is_in_place(contact: Contact, xs: &[i32; 256], ys: &[i32; 256]) -> bool
     ensures { result ≡ stays_in xs.now ys.now contact }
 {
-    if is_lift(contact.flags) {
-        let place = contact.place;
-        return is_stored(place, contact.id, xs, ys);
-    }
-    true
+    let place = contact.place;
+    !is_lift(contact.flags) || is_stored(place, contact.id, xs, ys)
 }
 
 // Whether a contact obeys both rules that look at no other contact of its frame.
@@ -64,8 +46,5 @@ pub(crate) fn is_allowed(
 ) -> bool
     ensures { result ≡ allowed_in states.now xs.now ys.now contact }
 {
-    if is_legal(contact, states) {
-        return is_in_place(contact, xs, ys);
-    }
-    false
+    is_legal(contact, states) && is_in_place(contact, xs, ys)
 }

@@ -1,25 +1,13 @@
 // One pass over the contacts of a frame: each is read once for all the rules.
 ghost use Rattle.std.specs.Prelude.{◌≡◌};
-ghost use Rattle.contacts.specs.Ruling.{source, contacts_by, of_read, unlawful, surveyed};
+ghost use Rattle.contacts.specs.Ruling.{source, contacts_by, of_read, surveyed};
 
 use crate::Survey;
 use crate::counts::one_if_active;
 use crate::rules::is_allowed;
 use crate::source::read_contact;
-use touch::ReadContact;
 
-// A frame that breaks a rule.
-fn broken() -> Survey
-    ensures { result ≡ unlawful }
-{
-    Survey {
-        lawful: false,
-        came: 0,
-        gone: 0,
-    }
-}
-
-// Whether no id is in the frame twice and each contact is allowed, and how the frame changes the number of active contacts.
+// How the frame changes the number of active contacts, where no id is in it twice and each contact is allowed.
 pub(crate) fn survey(
     rest: &[u8],
     n: u16,
@@ -27,36 +15,23 @@ pub(crate) fn survey(
     states: &[u8; 256],
     xs: &[i32; 256],
     ys: &[i32; 256],
-) -> Survey
-    ensures { result ≡ of_read unlawful (surveyed states.now xs.now ys.now) (contacts_by (source recorded) n rest.now) }
+) -> Option<Survey>
+    ensures { result ≡ of_read None (surveyed states.now xs.now ys.now) (contacts_by (source recorded) n rest.now) }
 {
     let mut seen = [false; 256];
     let mut came: u16 = 0;
     let mut gone: u16 = 0;
-    let mut at: usize = 0;
-    let mut left = n;
-    while 0 < left {
-        let got = read_contact(&rest[at..], recorded);
-        let ReadContact::Value(contact, k) = got else {
-            return broken();
-        };
+    let mut left = rest;
+    for _ in 0..n {
+        let (contact, behind) = read_contact(left, recorded).ok()?;
         let i = contact.id as usize;
-        if seen[i] {
-            return broken();
+        if seen[i] || !is_allowed(contact, states, xs, ys) {
+            return None;
         }
-        if is_allowed(contact, states, xs, ys) {
-            seen[i] = true;
-            came += one_if_active(states::next_state(contact.flags, states[i]));
-            gone += one_if_active(states[i]);
-            at += k;
-            left -= 1;
-        } else {
-            return broken();
-        }
+        seen[i] = true;
+        came += one_if_active(states::next_state(contact.flags, states[i]));
+        gone += one_if_active(states[i]);
+        left = behind;
     }
-    Survey {
-        lawful: true,
-        came: came,
-        gone: gone,
-    }
+    Some(Survey { came, gone })
 }

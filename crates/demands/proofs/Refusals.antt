@@ -16,7 +16,7 @@ use Rattle.slices.specs.declared.Written.{Written}
 use Rattle.formats.specs.Format.{Got, got, bad}
 use Rattle.formats.proofs.Refusing.{Tame}
 use Rattle.integers.specs.Integer.{limit, draft}
-use Rattle.integers.specs.Answer.{minus}
+use Rattle.integers.specs.Shape.{minus}
 use Rattle.house.specs.declared.Contact.{Contact}
 use Rattle.well_formed.specs.WellFormed.{all}
 use Rattle.well_formed.proofs.WellFormed.{all_split}

@@ -4,30 +4,30 @@
 use Prim.Native.Nat.{ℕ, zero, suc, ◌*◌, ◌/◌, ◌≤◌}
 use mathlib.Core.Path.{◌≡◌, refl, sym, ap, ◌∙◌}
 use mathlib.Core.Bool.{Bool, true, false, cond}
-use mathlib.Core.List.{List, [], ◌∷◌}
+use mathlib.Core.List.{List, []}
 use native.Mathlib.Omega.{arith}
 use lib.Dec.{leb}
 use lib.ListN.{length, take, drop}
 use lib.Seq.{take_at}
 use borrow.Author.Tests.{leb-true, leb-false}
-use Rattle.paper.specs.Refusals.{none, no_room, not_shortest, bad_count, too_long, bad_field, trailing}
+use Rattle.paper.specs.Refusals.{none, no_room, not_shortest, bad_count, too_long, bad_field}
+use Rattle.paper.specs.Refusals.{number}
+use Rattle.paper.specs.declared.Refusal.{Refusal}
 use Rattle.paper.specs.declared.Milliseconds.{Milliseconds}
+use Rattle.std.specs.Prelude.{Result, Ok, Err}
 use Rattle.digits.specs.Digits.{Bytes}
 use Rattle.slices.specs.Writing.{Draft, bytes, refuse, given, answered, left, Writes}
 use Rattle.slices.specs.declared.Written.{Written}
 use Rattle.slices.proofs.Laws.{given-room, given-none, given-refuse, writes-done}
-use Rattle.formats.specs.Format.{Got, got, bad, and_then, Format, ended, whole, byte}
-use Rattle.formats.specs.Answer.{refusal_of}
+use Rattle.formats.specs.Format.{Got, got, bad, Format, byte}
+use Rattle.formats.specs.Answer.{whole_of}
+use Rattle.formats.proofs.Laws.{never}
 use Rattle.house.specs.Fields.{record_bytes}
 use Rattle.house.specs.declared.Contact.{Contact}
-use Rattle.messages.specs.Header.{one_of, headed, read_message, server_ready, client_ready, suspend, resume, dismiss, most_bytes}
+use Rattle.messages.specs.Header.{one_of, read_message, server_ready, client_ready, suspend, resume, dismiss, most_bytes}
 use Rattle.messages.specs.Bodies.{version, ready, nothing, version_listed, flags_listed, server_ready_draft, client_ready_draft, suspend_draft, resume_draft, dismiss_draft}
 use Rattle.messages.specs.declared.Ready.{Ready}
-use Rattle.messages.specs.declared.ReadVersion.TheVariants as version-read
-use Rattle.messages.specs.declared.ReadReady.TheVariants as Ready-read
-use Rattle.messages.specs.declared.ReadDismiss.TheVariants as dismiss-read
 use Rattle.message_writers.proofs.RoundTrip.{RoundTrip, round-trips}
-use Rattle.messages.proofs.Unique.{version-meant, ready-meant, dismiss-meant}
 use Rattle.framing.specs.Frame.{Frame, frames_bytes}
 use Rattle.frame_records.proofs.Laws.{length-frames}
 use Rattle.touch.specs.Limits.{most_frames}
@@ -40,8 +40,8 @@ use Rattle.writing.specs.TouchDraft.{message_of, frames_draft, checked_frames, t
 use Rattle.writing.proofs.Checked.{checked-tame}
 use Rattle.writing.proofs.RoundTrip.{accepted-is-written-back, accepted-is-written-back-no-longer, accepted-is-read-again, strictly-accepted-is-written-back-to-the-same-bytes, written-is-read-back-to-the-same-records-and-time}
 use Rattle.formats.proofs.Agreeing.{Agree, refuses, same}
-use Rattle.formats.proofs.Refusing.{Tame, and-then, done-tame, whole-tame}
-use Rattle.receiver.proofs.Refusing.{Listed, headed-tame, message-tame}
+use Rattle.formats.proofs.Refusing.{Tame}
+use Rattle.receiver.proofs.Refusing.{Listed, message-tame}
 use Rattle.demands.specs.RoundTrip.{Wrote, Read, Refused, records_read, Judged, WrittenBack, Trip, ReadAndWrittenBack}
 
 -- ---- a reading, by what it reads
@@ -295,18 +295,20 @@ agreement message a b before after after' h k u = go (readings-agree message)
 
 -- ---- the other messages, from what their formats say
 
-module _ {A R : Type 0} (e : ℕ) (f : Format A) (draft : A → Draft) (Fit : A → Type 0) (Answers : List ℕ → R → Type 0) (value : A → R)
-    (laws : RoundTrip e f draft Fit) (named : (v : A) → Named (draft v))
-    (answers : (l : List ℕ) (r : R) (v : A) → Answers l r → read_message e f l ≡ got v [] → r ≡ value v)
-    (accepts : (l : List ℕ) (v : A) → Answers l (value v) → read_message e f l ≡ got v []) where
-  trip : Trip draft Fit Answers value
+-- an answer that says a value is that value
+meant : {A : Type 0} (r : Result A Refusal) (v : A) → whole_of r ≡ got v [] → r ≡ Ok v
+meant (Ok a) v h = let z : a ≡ v = cc in ap Ok z
+meant (Err e) v h = never (number e) v [] h
+
+module _ {A : Type 0} (e : ℕ) (f : Format A) (draft : A → Draft) (Fit : A → Type 0) (laws : RoundTrip e f draft Fit) (named : (v : A) → Named (draft v)) where
+  trip : Trip draft Fit (read_message e f)
   trip =
       record {
         back = λ v w before after r fit h z a.
             let x = wrote-whole (draft v) w before after (named v) h z in
-            answers (take w.bytes after) r v a (ap (read_message e f) x.front ∙ laws.back v x.drawn fit x.is);
+            meant r v (a ∙ ap (read_message e f) x.front ∙ laws.back v x.drawn fit x.is);
         exact = λ l v w before after hl a h room.
-            wrote-room (draft v) l w before after (laws.exact l v [] hl (accepts l v a)).1 h room;
+            wrote-room (draft v) l w before after (laws.exact l v [] hl (sym a)).1 h room;
       }
 
 server-named : (v : ℕ) → Named (server_ready_draft v)
@@ -329,28 +331,6 @@ dismiss-named : (id : ℕ) → Named (dismiss_draft id)
 unfolding dismiss_draft
 dismiss-named id = tt
 
--- a message of a header alone is refused by a number, or read
-empty-tame : (e : ℕ) (l : List ℕ) → Tame (Listed false false) (read_message e nothing l)
-unfolding read_message one_of
-empty-tame e l =
-    and-then (Listed false false) (headed (e ∷ []) l) _ (headed-tame false false (e ∷ []) l)
-    (λ x b. whole-tame (Listed false false) nothing trailing refl (done-tame (Listed false false) tt) b)
-
-empty-accepts : (e : ℕ) (l : List ℕ) (v : Unit {0}) → none ≡ refusal_of (read_message e nothing l) → read_message e nothing l ≡ got v []
-unfolding read_message ended
-empty-accepts e l v h = go (headed (e ∷ []) l) (empty-tame e l) h
-  where
-    go : (x : Got ℕ) → Tame (Listed false false) (and_then x (λ k b. whole nothing trailing b)) → none ≡ refusal_of (and_then x (λ k b. whole nothing trailing b)) → and_then x (λ k b. whole nothing trailing b) ≡ got v []
-    go (bad n) k z = absurd (omega (arith, not_none false n k, z))
-    go (got n b) k z = on b k z
-      where
-        on : (b : List ℕ) → Tame (Listed false false) (whole nothing trailing b) → none ≡ refusal_of (whole nothing trailing b) → whole nothing trailing b ≡ got v []
-        on [] k z = refl
-        on (y ∷ b) k z = absurd (omega (arith, not_none false trailing k, z))
-
-empty-answers : (e : ℕ) (l : List ℕ) (r : ℕ) (v : Unit {0}) → r ≡ refusal_of (read_message e nothing l) → read_message e nothing l ≡ got v [] → r ≡ none
-empty-answers e l r v h k = h ∙ ap refusal_of k
-
 pub read-and-written-back : ReadAndWrittenBack
 read-and-written-back =
     record {
@@ -360,15 +340,9 @@ read-and-written-back =
       same_bytes = same_bytes_lem;
       agreement = agreement;
       read_back = read_back_lem;
-      server_readies =
-          trip server_ready version server_ready_draft _ _ _ round-trips.server-ready server-named
-          (λ l r v h k. version-meant r (version-read.Version v) (h ∙ k)) (λ l v h. sym h);
-      client_readies =
-          trip client_ready ready client_ready_draft _ _ _ round-trips.client-ready client-named
-          (λ l r v h k. ready-meant r (Ready-read.Ready v) (h ∙ k)) (λ l v h. sym h);
-      suspends = trip suspend nothing (λ u. suspend_draft) _ _ _ round-trips.suspends (λ u. suspend-named) (empty-answers suspend) (empty-accepts suspend);
-      resumes = trip resume nothing (λ u. resume_draft) _ _ _ round-trips.resumes (λ u. resume-named) (empty-answers resume) (empty-accepts resume);
-      dismissals =
-          trip dismiss byte dismiss_draft _ _ _ round-trips.dismisses dismiss-named
-          (λ l r v h k. dismiss-meant r (dismiss-read.Id v) (h ∙ k)) (λ l v h. sym h);
+      server_readies = trip server_ready version server_ready_draft _ round-trips.server-ready server-named;
+      client_readies = trip client_ready ready client_ready_draft _ round-trips.client-ready client-named;
+      suspends = trip suspend nothing (λ u. suspend_draft) _ round-trips.suspends (λ u. suspend-named);
+      resumes = trip resume nothing (λ u. resume_draft) _ round-trips.resumes (λ u. resume-named);
+      dismissals = trip dismiss byte dismiss_draft _ round-trips.dismisses dismiss-named;
     }

@@ -8,7 +8,7 @@ use Rattle.paper.specs.declared.Milliseconds.{Milliseconds}
 use Rattle.slices.specs.Writing.{Draft, bytes, Writes}
 use Rattle.slices.specs.declared.Written.{Written}
 use Rattle.integers.specs.Integer.{draft}
-use Rattle.integers.specs.Answer.{minus}
+use Rattle.integers.specs.Shape.{minus}
 use Rattle.house.specs.Layout.{head_bytes, contact_bytes}
 use Rattle.house.specs.declared.Head.{Head}
 use Rattle.house.specs.declared.Contact.{Contact}

@@ -2,22 +2,19 @@
 -- message that the plain reading accepts is written back .. from its records and its encode time, and both are read back the same when the writer
 -- accepts them." #104: "In place of demand 2's same bytes, reading and then writing yields the shortest message of the same meaning; doing that twice
 -- changes nothing more."
-use Rattle.std.specs.Prelude.{ℕ, ◌*◌, ◌/◌, ◌^◌, ◌≤◌, ◌<◌, ◌≡◌, Bool, List, length, take}
+use Rattle.std.specs.Prelude.{ℕ, ◌*◌, ◌/◌, ◌^◌, ◌≤◌, ◌<◌, ◌≡◌, Bool, List, length, take, Result, Ok}
 use Rattle.paper.specs.Refusals.{none, no_room, not_shortest}
+use Rattle.paper.specs.declared.Refusal.{Refusal}
 use Rattle.paper.specs.declared.Milliseconds.{Milliseconds}
 use Rattle.digits.specs.Digits.{Bytes}
 use Rattle.slices.specs.Writing.{laid, Draft, Writes}
 use Rattle.slices.specs.declared.Written.{Written}
-use Rattle.formats.specs.Format.{got, bad, byte}
-use Rattle.formats.specs.Answer.{refusal_of}
+use Rattle.formats.specs.Format.{Got, got, bad, byte}
+use Rattle.formats.specs.Answer.{whole_of}
 use Rattle.house.specs.Fields.{record_bytes}
 use Rattle.messages.specs.Header.{read_message, server_ready, client_ready, suspend, resume, dismiss}
 use Rattle.messages.specs.Bodies.{version, ready, nothing, server_ready_draft, client_ready_draft, suspend_draft, resume_draft, dismiss_draft}
-use Rattle.messages.specs.Answer.{version_got, ready_got, dismiss_got}
 use Rattle.messages.specs.declared.Ready.{Ready}
-use Rattle.messages.specs.declared.ReadVersion.TheVariants as version-read
-use Rattle.messages.specs.declared.ReadReady.TheVariants as Ready-read
-use Rattle.messages.specs.declared.ReadDismiss.TheVariants as dismiss-read
 use Rattle.framing.specs.Frame.{frames_bytes}
 use Rattle.touch.specs.Touch.{Touch, touch_record}
 use Rattle.reading.specs.Plain.{read_by, ReadsBy, ReadsPlainly, ReadsStrictly}
@@ -73,15 +70,15 @@ pub record WrittenBack (a : PlainAnswer) (after : List ℕ) (w : Written) (out�
   pub wrote : Wrote message w out₀ out₁
   pub shortest : Shortest a.time (records_read a after) message
 
--- ---- the five small messages: of a writer of values and a reader whose answer r of a message l is such that Answers l r
+-- ---- the five small messages: of a writer of values, and a reader of what a message says by `read`
 
--- values Fit their types, and the reader answers a value by `value`
-pub record Trip {Value Answer : Type 0} (draft : Value → Draft) (Fit : Value → Type 0) (Answers : List ℕ → Answer → Type 0) (value : Value → Answer) : Type 0 where
+-- values Fit their types
+pub record Trip {Value : Type 0} (draft : Value → Draft) (Fit : Value → Type 0) (read : List ℕ → Got Value) : Type 0 where
   -- what was written is read back the same
-  pub back : (v : Value) (w : Written) (before after : List ℕ) (r : Answer) → Fit v → Writes (draft v) w before after → w.refusal ≡ none
-      → Answers (take w.bytes after) r → r ≡ value v
+  pub back : (v : Value) (w : Written) (before after : List ℕ) (r : Result Value Refusal) → Fit v → Writes (draft v) w before after → w.refusal ≡ none
+      → whole_of r ≡ read (take w.bytes after) → r ≡ Ok v
   -- what was accepted is written back to the same bytes, given room
-  pub exact : (message : List ℕ) (v : Value) (w : Written) (before after : List ℕ) → Bytes message → Answers message (value v)
+  pub exact : (message : List ℕ) (v : Value) (w : Written) (before after : List ℕ) → Bytes message → whole_of (Ok v) ≡ read message
       → Writes (draft v) w before after → length message ≤ length before → Wrote message w before after
 
 -- THE DEMAND
@@ -115,8 +112,8 @@ pub record ReadAndWrittenBack : Type 0 where
       → ReadsBy strictly (take w.bytes after) a out₀ out₁ → length records ≤ length out₀
       → Read time records a out₀ out₁
   -- and so the other messages, of values that their types hold: u32, u16 and u8
-  pub server_readies : Trip server_ready_draft (λ v. v < 2 ^ 32) (λ l r. version_got r ≡ read_message server_ready version l) version-read.Version
-  pub client_readies : Trip client_ready_draft (λ s. (s.flags < 2 ^ 32) × (s.version < 2 ^ 32) × (s.most < 2 ^ 16)) (λ l r. ready_got r ≡ read_message client_ready ready l) Ready-read.Ready
-  pub suspends : Trip (λ (u : Unit {0}). suspend_draft) (λ u. Unit {0}) (λ l r. r ≡ refusal_of (read_message suspend nothing l)) (λ u. none)
-  pub resumes : Trip (λ (u : Unit {0}). resume_draft) (λ u. Unit {0}) (λ l r. r ≡ refusal_of (read_message resume nothing l)) (λ u. none)
-  pub dismissals : Trip dismiss_draft (λ id. id < 2 ^ 8) (λ l r. dismiss_got r ≡ read_message dismiss byte l) dismiss-read.Id
+  pub server_readies : Trip server_ready_draft (λ v. v < 2 ^ 32) (read_message server_ready version)
+  pub client_readies : Trip client_ready_draft (λ (s : Ready). (s.flags < 2 ^ 32) × (s.version < 2 ^ 32) × (s.most < 2 ^ 16)) (read_message client_ready ready)
+  pub suspends : Trip (λ (u : Unit {0}). suspend_draft) (λ u. Unit {0}) (read_message suspend nothing)
+  pub resumes : Trip (λ (u : Unit {0}). resume_draft) (λ u. Unit {0}) (read_message resume nothing)
+  pub dismissals : Trip dismiss_draft (λ id. id < 2 ^ 8) (read_message dismiss byte)

@@ -1,13 +1,13 @@
 -- Two answers that the contract allows are equal.
 -- Assumes nothing.
+use Rattle.std.specs.Prelude.{Option}
 use Prim.Native.Nat.{ℕ}
 use mathlib.Core.Path.{◌≡◌, sym, ◌∙◌}
 use mathlib.Core.List.{List}
 use Rattle.digits.specs.Digits.{joined}
 use Rattle.entries.specs.Entries.{front_of}
-use Rattle.entries.specs.declared.Front.{Front}
 
-pub read-front-unique : (file : List ℕ) (a b : Front) → a ≡ front_of file → b ≡ front_of file → a ≡ b
+pub read-front-unique : (file : List ℕ) (a b : Option ℕ) → a ≡ front_of file → b ≡ front_of file → a ≡ b
 read-front-unique file a b e f = e ∙ sym f
 
 pub join-unique : (bytes : List ℕ) (a b : ℕ) → a ≡ joined 0 bytes → b ≡ joined 0 bytes → a ≡ b

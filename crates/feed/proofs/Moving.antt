@@ -1,5 +1,6 @@
 -- Bytes moved to the front of a space, and read on behind them.
 -- Assumes nothing.
+use Rattle.std.specs.Prelude.{Some, None}
 use Prim.Native.Nat.{ℕ, suc, ◌+◌, ◌-◌, ◌≤◌, ◌<◌}
 use mathlib.Core.Path.{◌≡◌, refl, sym, ap, ◌∙◌}
 use mathlib.Core.Bool.{Bool, true, false, cond}
@@ -13,7 +14,6 @@ use lib.Dec.{leb}
 use lib.ListN.{length, get_or, set, take, drop, length-set, length-drop, take-append-drop}
 use lib.Seq.{take-suc, take-suc-set, drop-set-lt, drop-drop, get_or-drop, take-take, take_at, length-take-le}
 use Rattle.entries.specs.Entries.{front_of}
-use Rattle.entries.specs.declared.Front.{Front}
 use Rattle.feed.specs.declared.Window.{Window}
 use Rattle.feed.specs.Within.{Inside, is_inside, bytes_in, Moves, ReadsOn, Fills}
 
@@ -83,10 +83,10 @@ filled_none w r before e u =
     let i : Inside (length before) nothing = record { order = omega arith; inside = omega arith } in
     record { by = rw u (e, refl); window = rw e i; long = refl }
 
-pub filled-same : (w : Window) (before : List ℕ) (n : ℕ) → Inside (length before) w → front_of (bytes_in w before) ≡ Front.Entry n → Fills w w before before
+pub filled-same : (w : Window) (before : List ℕ) (n : ℕ) → Inside (length before) w → front_of (bytes_in w before) ≡ Some n → Fills w w before before
 filled-same w before n h e = record { by = rw (is-inside (length before) w h, e) (refl, refl); window = h; long = refl }
 
-pub filled_on : (w : Window) (kept end : ℕ) (before moved after : List ℕ) → Inside (length before) w → front_of (bytes_in w before) ≡ Front.Part
+pub filled_on : (w : Window) (kept end : ℕ) (before moved after : List ℕ) → Inside (length before) w → front_of (bytes_in w before) ≡ None
     → Moves w kept before moved → ReadsOn kept end moved after → Fills w (record { at = 0; end = end }) before after
 filled_on w kept end before moved after h p m n =
     let e : take kept (take end after) ≡ bytes_in w before = take-take kept end after n.order ∙ (n.front ∙ m.front) in

@@ -1,7 +1,6 @@
 -- Windows of a space: nothing of them is lost while more is read, and what is handed out is what stands there. What is read no contract can say.
-use Rattle.std.specs.Prelude.{ℕ, ◌+◌, ◌-◌, ◌≤◌, ◌≡◌, Bool, true, false, cond, List, ◌++◌, leb, length, take, drop}
+use Rattle.std.specs.Prelude.{ℕ, ◌+◌, ◌-◌, ◌≤◌, ◌≡◌, Bool, true, false, cond, List, ◌++◌, leb, length, take, drop, Option, Some, None}
 use Rattle.entries.specs.Entries.{front_of}
-use Rattle.entries.specs.declared.Front.{Front}
 use Rattle.feed.specs.declared.Window.{Window}
 use Rattle.feed.specs.declared.Next.{Next}
 
@@ -44,10 +43,10 @@ pub record ReadsBehind (w r : Window) (before after : List ℕ) : Type 0 where
   pub kept : bytes_in r after ≡ bytes_in w before ++ read
 
 -- of a window that is not the space's nothing is kept; where a whole entry is at its front nothing is read; otherwise it is read on
-abbrev pub FillsBy : Bool → Front → Window → Window → List ℕ → List ℕ → Type 0
+abbrev pub FillsBy : Bool → Option ℕ → Window → Window → List ℕ → List ℕ → Type 0
 FillsBy false f w r before after = (r ≡ record { at = 0; end = 0 }) × (after ≡ before)
-FillsBy true (Front.Entry n) w r before after = (r ≡ w) × (after ≡ before)
-FillsBy true Front.Part w r before after = ReadsBehind w r before after
+FillsBy true (Some n) w r before after = (r ≡ w) × (after ≡ before)
+FillsBy true None w r before after = ReadsBehind w r before after
 
 -- THE CONTRACT of filling the window w, after which it is r
 pub record Fills (w r : Window) (before after : List ℕ) : Type 0 where
@@ -70,9 +69,9 @@ Within n Next.Cut = Unit {0}
 Within n Next.End = Unit {0}
 
 -- the entry at the front of a window and the rest behind it, or a part of an entry
-abbrev pub front_next : Front → Window → Next
-front_next (Front.Entry n) w = Next.Entry (w.at + 2) n (record { at = w.at + 2 + n; end = w.end })
-front_next Front.Part w = Next.Cut
+abbrev pub front_next : Option ℕ → Window → Next
+front_next (Some n) w = Next.Entry (w.at + 2) n (record { at = w.at + 2 + n; end = w.end })
+front_next None w = Next.Cut
 
 -- what comes next in a window that was filled
 abbrev pub handed_out : Window → List ℕ → Next

@@ -5,8 +5,6 @@ ghost use Rattle.std.specs.Prelude.{◌≡◌, ◌+◌, ◌≤◌, length};
 ghost use Rattle.entries.specs.Entries.{front_of};
 ghost use Rattle.feed.specs.Within.{Inside, bytes_in, Moves, ReadsOn, Fills, front_next, HandsOut};
 
-use entries::Front;
-
 // The longest entry: two bytes of length, and the 65,535 that these can say. In less space it is never whole.
 pub const ENTRY_MOST: usize = 65537;
 
@@ -46,12 +44,9 @@ fn moved(space: &mut [u8], window: Window) -> usize
     requires { Inside (length space.old) window }
     ensures { Moves window result space.old space.new }
 {
-    let mut from = window.at;
     let mut to: usize = 0;
-    let end = window.end;
-    while from < end {
+    for from in window.at..window.end {
         space[to] = space[from];
-        from += 1;
         to += 1;
     }
     to
@@ -77,8 +72,7 @@ pub fn fill(input: i32, space: &mut [u8], window: Window) -> Window
     if end < at {
         return opened();
     }
-    let seen = entries::read_front(&space[at..end]);
-    if let Front::Entry(_) = seen {
+    if entries::read_front(&space[at..end]).is_some() {
         return window;
     }
     let kept = moved(space, window);
@@ -95,15 +89,11 @@ fn entry_in(space: &[u8], window: Window) -> Next
 {
     let at = window.at;
     let end = window.end;
-    let seen = entries::read_front(&space[at..end]);
-    let Front::Entry(n) = seen else {
+    let Some(n) = entries::read_front(&space[at..end]) else {
         return Next::Cut;
     };
     let start = at + 2;
-    let rest = Window {
-        at: start + n,
-        end: end,
-    };
+    let rest = Window { at: start + n, end };
     Next::Entry(start, n, rest)
 }
 

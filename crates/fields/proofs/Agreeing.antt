@@ -7,7 +7,8 @@ use Rattle.paper.specs.Refusals.{not_shortest}
 use Rattle.formats.proofs.Agreeing.{Agree, refuses, same, Agreeing}
 use Rattle.integers.specs.Integer.{Reading, reading, any_reading}
 use Rattle.integers.proofs.Laws.{Apart, six, alike, readings}
-use Rattle.fields.specs.Integers.{Shape, unsigned, signed, got_by, integer, Integers, strict, lenient}
+use Rattle.integers.specs.Shape.{Shape, unsigned, signed}
+use Rattle.fields.specs.Integers.{got_by, integer, Integers, strict, lenient}
 
 pub record IntegersAgreeing (e : ℕ) (i j : Integers) : Type 0 where
   pub u2 : Agreeing e i.u2 j.u2

@@ -15,10 +15,10 @@ use Rattle.digits.proofs.Laws.{bytes_drop}
 use Rattle.formats.specs.Format.{got, Format}
 use Rattle.formats.proofs.Laws.{Law, Back, Sound, Short, Exact, never}
 use Rattle.integers.specs.Integer.{Reading, value, refused, reading_by, writing, limit, signs}
-use Rattle.integers.specs.Answer.{minus, signed_value}
 use Rattle.integers.proofs.Laws.{length-and-value, reading-inside, writing-shorter}
-use Rattle.integers.proofs.Signed.{minus-small, signed-again}
-use Rattle.fields.specs.Integers.{Shape, unsigned, signed, got_by, integer, Integers, integers_by, taken_by, taken}
+use Rattle.integers.proofs.Signed.{minus-small}
+use Rattle.integers.specs.Shape.{Shape, unsigned, signed, minus, signed_value, signed-again}
+use Rattle.fields.specs.Integers.{got_by, integer, Integers, integers_by, taken_by, taken}
 
 -- what a reading of integers promises, at whatever lengths: what is written is read back, the value is in range, and it is written in no more
 -- bytes

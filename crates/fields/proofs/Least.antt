@@ -11,7 +11,8 @@ use Rattle.formats.proofs.Laws.{never}
 use Rattle.formats.proofs.Least.{Takes}
 use Rattle.integers.specs.Integer.{Reading, value, refused, reading_by}
 use Rattle.integers.proofs.Laws.{reading-one, reading-inside}
-use Rattle.fields.specs.Integers.{Shape, unsigned, signed, got_by, integer, Integers, integers_by, taken}
+use Rattle.integers.specs.Shape.{Shape, unsigned, signed}
+use Rattle.fields.specs.Integers.{got_by, integer, Integers, integers_by, taken}
 use Rattle.fields.proofs.Order.{Inside}
 
 pub record IntegersLeast (i : Integers) : Type 0 where

@@ -1,5 +1,4 @@
 pub mod Laws
 pub mod Order
-pub mod Answers
 pub mod Least
 pub mod Agreeing

@@ -11,7 +11,8 @@ use Rattle.paper.specs.Refusals.{truncated}
 use Rattle.formats.proofs.Order.{behind, Settled, Stays, Ordered}
 use Rattle.integers.specs.Integer.{Reading, value, refused, reading_by}
 use Rattle.integers.proofs.Laws.{reading-inside, reading-more}
-use Rattle.fields.specs.Integers.{Shape, unsigned, signed, got_by, integer, Integers, integers_by, taken_by}
+use Rattle.integers.specs.Shape.{Shape, unsigned, signed}
+use Rattle.fields.specs.Integers.{got_by, integer, Integers, integers_by, taken_by}
 
 -- a reading that is not short of bytes is the same with bytes behind
 abbrev pub Kept : (List ℕ → Reading) → Type 0

@@ -1,21 +1,8 @@
 -- The five integers of 000, 2.2.2, as formats: over a reading, so that a message's format does not say which lengths are taken.
-use Rattle.std.specs.Prelude.{ℕ, ◌<◌, Bool, true, false, List, ℤ, nat_abs, drop}
+use Rattle.std.specs.Prelude.{ℕ, ◌<◌, Bool, true, false, List, ℤ, drop}
 use Rattle.formats.specs.Format.{Got, got, bad, Format}
 use Rattle.integers.specs.Integer.{Reading, value, refused, reading_by, writing, limit}
-use Rattle.integers.specs.Answer.{minus, signed_value}
-
--- values as sign and magnitude
-pub record Shape (A : Type 0) : Type 0 where
-  pub made : ℕ → ℕ → A
-  pub sign : A → ℕ
-  pub size : A → ℕ
-
--- no sign
-abbrev pub unsigned : Shape ℕ
-unsigned = record { made = λ s m. m; sign = λ m. 0; size = λ m. m }
-
-abbrev pub signed : Shape ℤ
-signed = record { made = signed_value; sign = minus; size = nat_abs }
+use Rattle.integers.specs.Shape.{Shape, unsigned, signed}
 
 -- a reading, as a value and the bytes after it
 abbrev pub got_by : {A : Type 0} → (ℕ → ℕ → A) → Reading → List ℕ → Got A

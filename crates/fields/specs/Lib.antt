@@ -1,3 +1,2 @@
 -- Integers as fields.
 pub mod Integers
-pub mod Answer

@@ -1,2 +1,18 @@
-// The five integers as fields of messages: the definitions stand in specs/, their laws in proofs/.
+// The five integers of 000, 2.2.2, as fields of a format.
 #![tactic(auto)]
+
+ghost use Rattle.std.specs.Prelude.{◌≡◌};
+ghost use Rattle.formats.specs.Answer.{read_of};
+ghost use Rattle.integers.specs.Integer.{reading_by};
+ghost use Rattle.fields.specs.Integers.{integer};
+
+use integers::Integer;
+use paper::Refusal;
+
+// The integer at the front, in its only form or in any, and what is behind it: the tail that the next field is read from.
+pub fn read<T: Integer>(rest: &[u8], strictly: bool) -> Result<(T, &[u8]), Refusal>
+    ensures { read_of result ≡ (integer T.shape (reading_by strictly) T.COUNT_BITS T.SIGN_BITS).read rest.now }
+{
+    let (value, n) = integers::read::<T>(rest, strictly)?;
+    Ok((value, &rest[n..]))
+}

@@ -2,10 +2,10 @@
 #![tactic(auto)]
 
 ghost use Rattle.std.specs.Prelude.{◌≡◌};
-ghost use Rattle.flat_records.specs.Flat.{flat, flattened, bare, flat_head, flat_contact, refused as refusedRecord};
+ghost use Rattle.flat_records.specs.Flat.{flat, flattened, bare, flat_head, flat_contact, refused as refused_record};
 
 use house::{Contact, Head, Record};
-use paper::Microseconds;
+use paper::{Microseconds, Refusal};
 
 // A record as numbers alone, since an enum does not cross to C. What its kind does not have is 0.
 #[repr(C)]
@@ -33,9 +33,9 @@ fn bare_record(refusal: u8, count: u16, offset: Microseconds) -> FlatRecord
     ensures { result ≡ bare refusal count offset }
 {
     FlatRecord {
-        refusal: refusal,
+        refusal,
         kind: house::HEAD,
-        count: count,
+        count,
         flags: 0,
         present: 0,
         id: 0,
@@ -47,12 +47,12 @@ fn bare_record(refusal: u8, count: u16, offset: Microseconds) -> FlatRecord
         bottom: 0,
         x: 0,
         y: 0,
-        offset: offset,
+        offset,
     }
 }
 
 fn refused(refusal: u8) -> FlatRecord
-    ensures { result ≡ refusedRecord refusal }
+    ensures { result ≡ refused_record refusal }
 {
     bare_record(refusal, 0, Microseconds(0))
 }
@@ -60,8 +60,7 @@ fn refused(refusal: u8) -> FlatRecord
 fn flatten_head(head: Head) -> FlatRecord
     ensures { result ≡ flat_head head }
 {
-    let offset = head.offset;
-    bare_record(0, head.count, offset)
+    bare_record(0, head.count, head.offset)
 }
 
 fn flatten_contact(kind: u8, contact: Contact) -> FlatRecord
@@ -71,7 +70,7 @@ fn flatten_contact(kind: u8, contact: Contact) -> FlatRecord
     let sides = contact.sides;
     FlatRecord {
         refusal: 0,
-        kind: kind,
+        kind,
         count: 0,
         flags: contact.flags,
         present: contact.present,
@@ -106,5 +105,5 @@ pub fn read_flat(records: &[u8]) -> FlatRecord
     if well_formed::is_well_formed(records, read) {
         return flatten(read);
     }
-    refused(paper::BAD_RECORD)
+    refused(Refusal::BadRecord.number())
 }

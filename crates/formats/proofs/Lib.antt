@@ -4,3 +4,4 @@ pub mod Steps
 pub mod Least
 pub mod Refusing
 pub mod Agreeing
+pub mod Unique

@@ -1,46 +1,20 @@
--- One field read in code: what the answer for the lent tail says of the whole.
+-- What is read, step by step, as code reads it: a series, the end.
 -- Assumes nothing.
-use Prim.Native.Nat.{ℕ, zero, suc, ◌+◌, ◌-◌, ◌≤◌, ◌<◌}
-use mathlib.Core.Path.{◌≡◌, refl, sym, ap, ◌∙◌}
+use Prim.Native.Nat.{ℕ, zero, suc, ◌-◌, ◌≤◌, ◌<◌}
+use mathlib.Core.Path.{◌≡◌, refl, sym, ◌∙◌}
 use mathlib.Core.Bool.{Bool, false}
 use mathlib.Core.List.{List, [], ◌∷◌}
 use native.Mathlib.Omega.{arith}
-use lib.ListN.{length, get_or, take, drop, length-drop, drop_of_length-le}
-use lib.Seq.{take_all, drop-drop, drop-cons}
+use lib.ListN.{length, take, drop, length-drop}
+use lib.Seq.{take_all}
 use native.Mathlib.Numerals.{sub-one}
-use Rattle.formats.specs.Format.{Got, got, bad, Format, and_then, read_series, ended, read_byte}
-use Rattle.paper.specs.Refusals.{truncated}
-use Rattle.formats.specs.Answer.{Answers, skipped, refusal_of}
+use Rattle.formats.specs.Format.{Got, got, bad, and_then, read_series, ended}
+use Rattle.formats.specs.Answer.{skipped}
+use Rattle.formats.proofs.Laws.{never}
 
 -- the part of a list from n on, as it is lent
 pub tail : (l : List ℕ) (n : ℕ) → take (length l - n) (drop n l) ≡ drop n l
 tail l n = take_all (length l - n) (drop n l) (omega (arith, length-drop n l))
-
--- the format f reads a at at, up to next
-pub record Stepped {A : Type 0} (f : Format A) (s : List ℕ) (at : ℕ) (a : A) (next : ℕ) : Type 0 where
-  pub reads : f.read (drop at s) ≡ got a (drop next s)
-  pub ends : next ≤ length s
-
-module _ {A : Type 0} (f : Format A) (s : List ℕ) (at : ℕ) where
-  pub step : (n : ℕ) (a : A) → at ≤ length s → Answers f (take (length s - at) (drop at s)) (got a (drop n (take (length s - at) (drop at s)))) n → Stepped f s at a (at + n)
-  step n a h w =
-      record {
-        reads = rw (tail s at, drop-drop n at s) at (sym w.same);
-        ends = omega (arith, rw (tail s at, length-drop at s) at w.inside);
-      }
-
-  pub stop : (e n : ℕ) → Answers f (take (length s - at) (drop at s)) (bad e) n → f.read (drop at s) ≡ bad e
-  stop e n w = rw (tail s at) at (sym w.same)
-
-pub byte_step : (s : List ℕ) → 0 < length s → read_byte s ≡ got (get_or s 0 0) (drop 1 s)
-unfolding read_byte
-byte_step [] h = absurd (omega arith)
-byte_step (x ∷ s) h = refl
-
-pub byte-stop : (s : List ℕ) → length s < 1 → read_byte s ≡ bad truncated
-unfolding read_byte
-byte-stop [] h = refl
-byte-stop (x ∷ s) h = absurd (omega arith)
 
 gone : {A : Type 0} (a : A) (x : Got (List A)) → skipped (and_then x (λ more u. got (a ∷ more) u)) ≡ skipped x
 gone a (got s t) = refl
@@ -80,17 +54,24 @@ pub skipped-made : {A B : Type 0} (h : A → B) (x : Got A) → skipped (and_the
 skipped-made h (got a t) = refl
 skipped-made h (bad e) = refl
 
--- bytes are left where the end comes before the length
-pub ended-bad : {A : Type 0} (e : ℕ) (a : A) (at : ℕ) (s : List ℕ) → at < length s → ended e a (drop at s) ≡ bad e
+-- the end of a message, as code tests for it
+pub ended_none : {A : Type 0} (e : ℕ) (a : A) (l : List ℕ) → length l ≡ 0 → ended e a l ≡ got a []
 unfolding ended
-ended-bad e a at s h = rw (drop-cons s at 0)
+ended_none e a [] h = refl
+ended_none e a (x ∷ l) h = absurd (omega (arith, h))
 
-pub ended-got : {A : Type 0} (e : ℕ) (a : A) (at : ℕ) (s : List ℕ) → length s ≤ at → ended e a (drop at s) ≡ got a []
+pub ended_more : {A : Type 0} (e : ℕ) (a : A) (l : List ℕ) → 0 < length l → ended e a l ≡ bad e
 unfolding ended
-ended-got e a at s h = rw (drop_of_length-le s h)
+ended_more e a [] h = absurd (omega arith)
+ended_more e a (x ∷ l) h = refl
 
-pub ended-more : (e at : ℕ) (s : List ℕ) → at < length s → refusal_of (ended e (tt {0}) (drop at s)) ≡ e
-ended-more e at s h = ap refusal_of (ended-bad e (tt {0}) at s h)
+-- what stands before it makes no difference
+pub ended_got : {A B : Type 0} (e : ℕ) (a : A) (b : B) (l : List ℕ) → ended e a l ≡ got a [] → ended e b l ≡ got b []
+unfolding ended
+ended_got e a b [] h = refl
+ended_got e a b (x ∷ l) h = never e a [] h
 
-pub ended-none : (e at : ℕ) (s : List ℕ) → length s ≤ at → refusal_of (ended e (tt {0}) (drop at s)) ≡ 0
-ended-none e at s h = ap refusal_of (ended-got e (tt {0}) at s h)
+pub ended_bad : {A B : Type 0} (e x : ℕ) (a : A) (b : B) (l : List ℕ) → ended e a l ≡ bad x → ended e b l ≡ bad x
+unfolding ended
+ended_bad e x a b [] h = never x a [] (sym h)
+ended_bad e x a b (y ∷ l) h = let z : e ≡ x = cc in rw z

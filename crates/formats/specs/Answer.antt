@@ -1,17 +1,31 @@
--- What code that reads a format has to answer.
-use Rattle.std.specs.Prelude.{ℕ, ◌≤◌, ◌≡◌, List, [], length}
+-- What code that reads a format answers: a value and the bytes behind it, or a refusal.
+use Rattle.std.specs.Prelude.{List, [], ℕ, Result, Ok, Err}
+use Rattle.std.specs.Borrow.{Bor}
+use Rattle.paper.specs.Refusals.{number}
+use Rattle.paper.specs.declared.Refusal.{Refusal}
 use Rattle.formats.specs.Format.{Got, got, bad, Format}
 
--- the answer x, which ends n bytes into l, is what the format f reads of l
-pub record Answers {A : Type 0} (f : Format A) (l : List ℕ) (x : Got A) (n : ℕ) : Type 0 where
-  pub same : x ≡ f.read l
-  pub inside : n ≤ length l
+-- what such an answer finds
+abbrev pub read_of : {A : Type 0} → Result (A × Bor (List ℕ)) Refusal → Got A
+read_of (Ok (a, t)) = got a t.now
+read_of (Err e) = bad (number e)
 
--- where a value ends, without the value
+-- .. of code that leaves nothing behind
+abbrev pub whole_of : {A : Type 0} → Result A Refusal → Got A
+whole_of (Ok a) = got a []
+whole_of (Err e) = bad (number e)
+
+-- .. and of code that hands on what is behind a value, without the value
+abbrev pub left_of : Result (Bor (List ℕ)) Refusal → Got (Unit {0})
+left_of (Ok t) = got tt t.now
+left_of (Err e) = bad (number e)
+
+-- what is left behind a value, without the value
 abbrev pub skipped : {A : Type 0} → Got A → Got (Unit {0})
 skipped (got a t) = got tt t
 skipped (bad e) = bad e
 
+-- .. as a format
 abbrev pub skip : {A : Type 0} → Format A → Format (Unit {0})
 skip f = record { read = λ l. skipped (f.read l); write = λ u. []; Holds = λ u. ⊥ }
 

@@ -7,14 +7,13 @@ use mathlib.Core.List.{List, [], ◌∷◌, ◌++◌, append_assoc, append-nil}
 use native.Mathlib.Omega.{arith}
 use borrow.Author.Tests.{le-leb, lt-leb, leb-false}
 use lib.Dec.{leb}
-use lib.ListN.{length, drop, length-append}
+use lib.ListN.{length, length-append}
 use Rattle.paper.specs.Refusals.{none, no_room}
 use Rattle.slices.specs.Writing.{laid, bytes, refuse, given, answered, left, Writes}
 use Rattle.slices.specs.declared.Written.{Written}
 use Rattle.slices.proofs.Laws.{given-none, given-refuse, writes_bytes, writes-refuse}
 use Rattle.formats.specs.Format.{Got, got, bad, times}
 use Rattle.formats.proofs.Laws.{series-length}
-use Rattle.formats.proofs.Steps.{Stepped}
 use Rattle.fields.specs.Integers.{taken}
 use Rattle.house.specs.Layout.{head_bytes, touched}
 use Rattle.house.specs.declared.Head.{Head}
@@ -113,11 +112,10 @@ unfolding frame_draft
 writes-no-frame h l w before after r ew ea = rw (lt-leb (21 * (h.count + 1)) (length before) r) (writes-refuse no_room w before after ew ea)
 
 -- one more contact
-pub records-on : (k at end : ℕ) (s : List ℕ) (c : Contact) → 0 < k → Stepped (contact taken) s at c end
-    → records_read k [] (drop at s) ≡ touch_record c ++ records_read (k - 1) [] (drop end s)
-records-on k at end s c h w =
-    sym (read-on (λ r d. r ++ touch_record d) (contact taken) [] (touch_record c) k at end s c h w refl)
-    ∙ ap (λ a. records_read (k - 1) a (drop end s)) (sym (append-nil (touch_record c))) ∙ records-behind (k - 1) (touch_record c) [] (drop end s)
+pub records-on : (k : ℕ) (l : List ℕ) (c : Contact) (t : List ℕ) → 0 < k → (contact taken).read l ≡ got c t → records_read k [] l ≡ touch_record c ++ records_read (k - 1) [] t
+records-on k l c t h w =
+    sym (read-on (λ r d. r ++ touch_record d) (contact taken) [] (touch_record c) k l c t h w refl)
+    ∙ ap (λ a. records_read (k - 1) a t) (sym (append-nil (touch_record c))) ∙ records-behind (k - 1) (touch_record c) [] t
 
 -- where all n can be read, they are the records of all
 pub records-read : (n : ℕ) (s l : List ℕ) (cs : List Contact) (t : List ℕ) → (times n (contact taken)).read l ≡ got cs t → records_read n s l ≡ s ++ contacts_bytes touch_record cs

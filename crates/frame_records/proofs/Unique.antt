@@ -1,49 +1,44 @@
--- Two outcomes that a contract of this crate allows are equal.
+-- Two outcomes that a contract of this crate allows are the same. Where in memory the bytes that are found lie is aside.
 -- Assumes nothing.
-use Prim.Native.Nat.{ℕ, ◌≤◌}
-use mathlib.Core.Path.{◌≡◌, sym, ap, ◌∙◌}
-use mathlib.Core.Bool.{false}
+use Prim.Native.Nat.{ℕ}
+use mathlib.Core.Path.{◌≡◌, sym, ◌∙◌}
 use mathlib.Core.List.{List}
-use native.Mathlib.Omega.{arith}
-use lib.ListN.{length, drop, length-drop}
+use Rattle.std.specs.Prelude.{Option, Some, None}
+use Rattle.std.specs.Borrow.{Bor}
 use Rattle.slices.specs.declared.Written.{Written}
 use Rattle.slices.proofs.Laws.{writes-unique}
-use Rattle.formats.specs.Format.{Got, got, bad}
-use Rattle.fields.specs.Integers.{taken}
+use Rattle.formats.specs.Format.{got}
+use Rattle.formats.proofs.Laws.{never}
 use Rattle.house.specs.declared.Head.{Head}
 use Rattle.house.specs.declared.Contact.{Contact}
-use Rattle.framing.specs.Frame.{Frame, head_of}
-use Rattle.touch.specs.Touch.{frame_head, frame}
-use Rattle.frame_records.specs.Frames.{WritesFrame, Finds, FindsFrame, FindsHeadAt, FindsHead}
-use Rattle.frame_records.specs.declared.FoundFrame.{FoundFrame}
-use Rattle.frame_records.specs.declared.FoundHead.{FoundHead}
+use Rattle.framing.specs.Frame.{Frame}
+use Rattle.frame_records.specs.Frames.{WritesFrame, FindsFrame, head_in, contacts_in}
 
 pub write-frame-unique : (h : Head) (l : List ℕ) (v w : Written) (before after after' : List ℕ) → WritesFrame h l v before after → WritesFrame h l w before after' → (v ≡ w) × (after ≡ after')
 write-frame-unique h l v w b a a' p q = writes-unique _ v w b a a' p q
 
 -- ---- finding
 
--- a place within a list is told by what is behind it
-place : (l : List ℕ) (m n : ℕ) → m ≤ length l → n ≤ length l → drop m l ≡ drop n l → m ≡ n
-place l m n hm hn e = omega (arith, length-drop m l, length-drop n l, ap length e)
+-- the same head, and the same bytes from its first contact on and behind its last; or none
+abbrev pub SameFrame : Option (Head × Bor (List ℕ) × Bor (List ℕ)) → Option (Head × Bor (List ℕ) × Bor (List ℕ)) → Type 0
+SameFrame (Some (h, s, t)) (Some (g, u, v)) = (h ≡ g) × (s.now ≡ u.now) × (t.now ≡ v.now)
+SameFrame (Some p) None = ⊥
+SameFrame None (Some p) = ⊥
+SameFrame None None = Unit {0}
 
-pub find-frame-unique : (l : List ℕ) (r s : FoundFrame) → FindsFrame l r → FindsFrame l s → r ≡ s
-find-frame-unique l r s p q = go ((frame taken false).read l) p.found q.found
-  where
-    go : (x : Got (Frame Contact)) → Finds x l r → Finds x l s → r ≡ s
-    go (bad e) a b = a ∙ sym b
-    go (got f t) a b =
-        let h : r.head ≡ s.head = a.head ∙ sym b.head in
-        let g : got (head_of f) (drop r.contacts l) ≡ got (head_of f) (drop s.contacts l) = sym a.headed ∙ b.headed in
-        let m : r.contacts ≡ s.contacts = place l r.contacts s.contacts p.begins q.begins (cc) in
-        let n : r.end ≡ s.end = place l r.end s.end p.ends q.ends (a.rest ∙ sym b.rest) in
-        λ i. record { head = h i; contacts = m i; end = n i }
+one-head : (g h : Head) (t u : List ℕ) → got g t ≡ got h u → (g ≡ h) × (t ≡ u)
+one-head g h t u e = (cc, cc)
 
-pub find-head-unique : (l : List ℕ) (r s : FoundHead) → FindsHead l r → FindsHead l s → r ≡ s
-find-head-unique l r s p q = go ((frame_head taken false).read l) p.found q.found
-  where
-    go : (x : Got Head) → FindsHeadAt x l r → FindsHeadAt x l s → r ≡ s
-    go (bad e) a b = a ∙ sym b
-    go (got h t) a b =
-        let m : r.contacts ≡ s.contacts = place l r.contacts s.contacts p.begins q.begins (a.1 ∙ sym b.1) in
-        λ i. record { head = (a.0 ∙ sym b.0) i; contacts = m i }
+one-frame : (f g : Frame Contact) (t u : List ℕ) → got f t ≡ got g u → t ≡ u
+one-frame f g t u e = cc
+
+pub find-frame-unique : (l : List ℕ) (r s : Option (Head × Bor (List ℕ) × Bor (List ℕ))) → FindsFrame l r → FindsFrame l s → SameFrame r s
+find-frame-unique l (Some (h, s, t)) (Some (g, u, v)) p q =
+    let e = one-head h g s.now u.now (sym p.3 ∙ q.3) in
+    (e.0, e.1, one-frame p.0 q.0 t.now v.now (sym p.1 ∙ q.1))
+find-frame-unique l (Some (h, s, t)) None p q = never q.0 p.0 t.now (sym q.1 ∙ p.1)
+find-frame-unique l None (Some (g, u, v)) p q = never p.0 q.0 v.now (sym p.1 ∙ q.1)
+find-frame-unique l None None p q = tt
+
+pub find-head-unique : (l : List ℕ) (r s : Head × Bor (List ℕ)) → (r.0 ≡ head_in l) × (r.1.now ≡ contacts_in l) → (s.0 ≡ head_in l) × (s.1.now ≡ contacts_in l) → (r.0 ≡ s.0) × (r.1.now ≡ s.1.now)
+find-head-unique l r s p q = (p.0 ∙ sym q.0, p.1 ∙ sym q.1)

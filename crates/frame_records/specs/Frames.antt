@@ -1,19 +1,18 @@
 -- What this crate's calls answer for the bytes of a frame in a message: where it stands, and the records written of it.
-use Rattle.std.specs.Prelude.{ℕ, suc, ◌+◌, ◌*◌, ◌≤◌, ◌≡◌, false, cond, List, [], ◌∷◌, ◌++◌, leb, length, drop}
+use Rattle.std.specs.Prelude.{ℕ, suc, ◌+◌, ◌*◌, ◌≡◌, false, cond, List, [], ◌∷◌, ◌++◌, leb, length, Option, Some, None}
+use Rattle.std.specs.Borrow.{Bor}
 use Rattle.paper.specs.Refusals.{no_room}
 use Rattle.slices.specs.Writing.{laid, Draft, bytes, refuse, Writes}
 use Rattle.slices.specs.declared.Written.{Written}
-use Rattle.formats.specs.Format.{Got, got, bad, times}
+use Rattle.formats.specs.Format.{got, bad}
 use Rattle.fields.specs.Integers.{taken}
 use Rattle.house.specs.Fields.{record_bytes}
 use Rattle.house.specs.Layout.{head_bytes}
 use Rattle.house.specs.declared.Head.{Head}
 use Rattle.house.specs.declared.Contact.{Contact}
 use Rattle.framing.specs.Frame.{Frame, head_of}
-use Rattle.framing.specs.After.{after_read}
+use Rattle.framing.specs.After.{on_read, after_read}
 use Rattle.touch.specs.Touch.{contact, frame_head, frame, touch_record}
-use Rattle.frame_records.specs.declared.FoundFrame.{FoundFrame}
-use Rattle.frame_records.specs.declared.FoundHead.{FoundHead}
 
 -- how many records frames have: each a head and its contacts
 unfoldable pub record_count : List (Frame Contact) → ℕ
@@ -41,32 +40,19 @@ pub record WritesContacts (n : ℕ) (l : List ℕ) (r : ℕ) (before after : Lis
   pub count : r ≡ length (records_read n [] l)
   pub output : after ≡ laid before (records_read n [] l)
 
--- where a frame stands that is read at the front of l, with t behind it
-pub record Found (l : List ℕ) (f : Frame Contact) (t : List ℕ) (r : FoundFrame) : Type 0 where
-  pub head : r.head ≡ head_of f
-  pub headed : (frame_head taken false).read l ≡ got (head_of f) (drop r.contacts l)
-  pub contacts : (times (length f.contacts) (contact taken)).read (drop r.contacts l) ≡ got f.contacts t
-  pub rest : drop r.end l ≡ t
+-- THE CONTRACT OF FINDING A FRAME at the front of l: its head, the bytes from its first contact on, and those behind its last
+abbrev pub FindsFrame : List ℕ → Option (Head × Bor (List ℕ) × Bor (List ℕ)) → Type 0
+FindsFrame l (Some (h, cs, t)) =
+    (f : Frame Contact) × ((frame taken false).read l ≡ got f t.now) × (h ≡ head_of f) × ((frame_head taken false).read l ≡ got h cs.now)
+FindsFrame l None = (e : ℕ) × ((frame taken false).read l ≡ bad e)
 
--- the answer where no frame can be read
-abbrev pub nowhere : FoundFrame
-nowhere = record { head = record { count = 0; offset = record { 0 = 0 } }; contacts = 0; end = 0 }
+-- a frame of no contacts
+abbrev pub empty_head : Head
+empty_head = record { count = 0; offset = record { 0 = 0 } }
 
-abbrev pub Finds : Got (Frame Contact) → List ℕ → FoundFrame → Type 0
-Finds (got f t) l r = Found l f t r
-Finds (bad e) l r = r ≡ nowhere
+-- the head of the frame at the front of l, and what is behind it; a head that cannot be read is one of no contact, and nothing is passed
+abbrev pub head_in : List ℕ → Head
+head_in l = on_read empty_head (λ h t. h) ((frame_head taken false).read l)
 
--- THE CONTRACT OF FINDING A FRAME at the front of l
-pub record FindsFrame (l : List ℕ) (r : FoundFrame) : Type 0 where
-  pub found : Finds ((frame taken false).read l) l r
-  pub begins : r.contacts ≤ length l
-  pub ends : r.end ≤ length l
-
--- THE CONTRACT OF FINDING A HEAD at the front of l
-abbrev pub FindsHeadAt : Got Head → List ℕ → FoundHead → Type 0
-FindsHeadAt (got h t) l r = (r.head ≡ h) × (drop r.contacts l ≡ t)
-FindsHeadAt (bad e) l r = r ≡ record { head = nowhere.head; contacts = 0 }
-
-pub record FindsHead (l : List ℕ) (r : FoundHead) : Type 0 where
-  pub found : FindsHeadAt ((frame_head taken false).read l) l r
-  pub begins : r.contacts ≤ length l
+abbrev pub contacts_in : List ℕ → List ℕ
+contacts_in l = on_read l (λ h t. t) ((frame_head taken false).read l)

@@ -1,61 +1,32 @@
-// Where a frame stands.
+// The frame at the front of what is lent.
 ghost use Rattle.std.specs.Prelude.{◌≡◌};
-ghost use Rattle.frame_records.specs.Frames.{nowhere, FindsFrame, FindsHead};
+ghost use Rattle.frame_records.specs.Frames.{head_in, contacts_in, FindsFrame};
 
-use crate::{FoundFrame, FoundHead};
 use house::Head;
 use paper::Microseconds;
-use touch::{End, ReadHead};
 
-// The answer where no frame can be read.
-fn none() -> FoundFrame
-    ensures { result ≡ nowhere }
-{
-    let head = Head {
-        count: 0,
-        offset: Microseconds(0),
-    };
-    FoundFrame {
-        head: head,
-        contacts: 0,
-        end: 0,
-    }
-}
+// A frame of no contacts.
+const EMPTY: Head = Head {
+    count: 0,
+    offset: Microseconds(0),
+};
 
-// The frame at the front of what is lent, whose offset is not judged.
-pub fn find_frame(rest: &[u8]) -> FoundFrame
+// The frame at the front of what is lent, whose offset is not judged, where one can be read: its head, its contacts, and what is behind it.
+pub fn find_frame(rest: &[u8]) -> Option<(Head, &[u8], &[u8])>
     ensures { FindsFrame rest.now result }
 {
-    let got_head = touch_frames::read_frame_head(rest, false, false);
-    let ReadHead::Value(head, at) = got_head else {
-        return none();
-    };
-    let got_end = touch_frames::skip_contacts(&rest[at..], head.count as usize, false);
-    let End::At(n) = got_end else {
-        return none();
-    };
-    FoundFrame {
-        head: head,
-        contacts: at,
-        end: at + n,
-    }
+    let (head, contacts) = touch_frames::read_frame_head(rest, false, false).ok()?;
+    let behind = touch_frames::skip_contacts(contacts, head.count as usize, false).ok()?;
+    Some((head, contacts, behind))
 }
 
-// The head of the frame at the front of what is lent, whose offset is not judged, and where its contacts begin.
-pub fn find_head(rest: &[u8]) -> FoundHead
-    ensures { FindsHead rest.now result }
+// The head of the frame at the front of what is lent, whose offset is not judged, and what is behind it; where none can be read the head of an
+// empty frame, and all that is lent.
+pub fn find_head(rest: &[u8]) -> (Head, &[u8])
+    ensures { (result.0 ≡ head_in rest.now) × (result.1.now ≡ contacts_in rest.now) }
 {
-    let got = touch_frames::read_frame_head(rest, false, false);
-    let ReadHead::Value(head, at) = got else {
-        let missing = none();
-        let head = missing.head;
-        return FoundHead {
-            head: head,
-            contacts: 0,
-        };
-    };
-    FoundHead {
-        head: head,
-        contacts: at,
+    match touch_frames::read_frame_head(rest, false, false) {
+        Ok(found) => found,
+        Err(_) => (EMPTY, rest),
     }
 }

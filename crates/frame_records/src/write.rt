@@ -4,8 +4,8 @@ ghost use Rattle.house.specs.Fields.{record_bytes};
 ghost use Rattle.frame_records.specs.Frames.{WritesContacts, WritesFrame};
 
 use house::Head;
+use paper::Refusal;
 use slices::Written;
-use touch::ReadContact;
 
 // A record for each of n contacts, each where the one before it ended, up to the first that cannot be read. Answers how many bytes it wrote.
 fn write_contacts(out: &mut [u8], rest: &[u8], n: usize) -> usize
@@ -13,17 +13,14 @@ fn write_contacts(out: &mut [u8], rest: &[u8], n: usize) -> usize
     ensures { WritesContacts n rest.now result out.old out.new }
 {
     let mut pos: usize = 0;
-    let mut at: usize = 0;
-    let mut left = n;
-    while 0 < left {
-        let got = touch::read_contact(&rest[at..], false);
-        let ReadContact::Value(contact, k) = got else {
+    let mut left = rest;
+    for _ in 0..n {
+        let Ok((contact, behind)) = touch::read_contact(left, false) else {
             return pos;
         };
         packing::write_contact(&mut out[pos..], house::TOUCHED, contact);
         pos += house::RECORD_BYTES;
-        at += k;
-        left -= 1;
+        left = behind;
     }
     pos
 }
@@ -35,15 +32,9 @@ pub fn write_frame(out: &mut [u8], head: Head, rest: &[u8]) -> Written
     let count = head.count as usize;
     let all = house::RECORD_BYTES * (count + 1);
     if out.len() < all {
-        return Written {
-            refusal: paper::NO_ROOM,
-            bytes: 0,
-        };
+        return Written::refused(Refusal::NoRoom);
     }
     packing::write_head(out, head);
     let more = write_contacts(&mut out[house::RECORD_BYTES..], rest, count);
-    Written {
-        refusal: 0,
-        bytes: house::RECORD_BYTES + more,
-    }
+    Written::done(house::RECORD_BYTES + more)
 }

@@ -5,10 +5,8 @@ use mathlib.Core.Path.{◌≡◌, refl, sym, ap, ◌∙◌}
 use mathlib.Core.List.{List, [], ◌∷◌}
 use native.Mathlib.Numerals.{sub-one}
 use native.Mathlib.Omega.{arith}
-use lib.ListN.{drop}
 use Rattle.formats.specs.Format.{Got, got, bad, and_then, Format, times, read_series}
 use Rattle.formats.proofs.Laws.{never}
-use Rattle.formats.proofs.Steps.{Stepped}
 use Rattle.framing.specs.After.{on_read, after_read}
 
 same : {A : Type 0} (a b : A) (l m : List ℕ) → got a l ≡ got b m → a ≡ b
@@ -29,11 +27,11 @@ module _ {A C : Type 0} (step : A → C → A) (format : Format C) where
     read-bad (suc k) l e h w = rw w
 
   -- a contact's step, and the others still to be read
-  pub read-on : (a b : A) (k at end : ℕ) (s : List ℕ) (c : C) → 0 < k → Stepped format s at c end → b ≡ step a c
-      → after_read step format (k - 1) b (drop end s) ≡ after_read step format k a (drop at s)
+  pub read-on : (a b : A) (k : ℕ) (l : List ℕ) (c : C) (t : List ℕ) → 0 < k → format.read l ≡ got c t → b ≡ step a c
+      → after_read step format (k - 1) b t ≡ after_read step format k a l
   unfolding after_read
-  read-on a b zero at end s c h w m = absurd (omega arith)
-  read-on a b (suc k) at end s c h w m = rw (w.reads, sub-one, m)
+  read-on a b zero l c t h w m = absurd (omega arith)
+  read-on a b (suc k) l c t h w m = rw (w, sub-one, m)
 
   -- ---- contacts that can all be read: what is left is what the list of them leaves, by a function that takes them one by one
 

@@ -8,10 +8,9 @@ use mathlib.Core.List.{List, [], ◌∷◌}
 use lib.Dec.{eqb}
 use lib.ListN.{length}
 use Rattle.paper.specs.Refusals.{bad_offset, trailing}
-use Rattle.formats.specs.Format.{Got, got, bad, and_then, Format, read_series, series, times, ended}
+use Rattle.formats.specs.Format.{Got, got, bad, and_then, Format, read_series, series, ended}
 use Rattle.formats.specs.Answer.{skip, skipped}
 use Rattle.formats.proofs.Laws.{never, such_got, more-got, series-length}
-use Rattle.formats.proofs.Steps.{skipped-made}
 use Rattle.fields.specs.Integers.{Integers}
 use Rattle.house.specs.declared.Head.{Head}
 use Rattle.framing.specs.declared.BodyHead.{BodyHead}
@@ -72,12 +71,6 @@ module _ (i : Integers) where
                   let z : v ≡ t = cc in
                   let hd : h ≡ record { count = length cs; offset = h.offset } = λ i. record { count = sym n i; offset = h.offset } in
                   record { after = u; head = rw q (w ∙ ap (λ (g : Head). got g u) hd); contacts = rw (q, n, ← z) k }
-
-      -- what is left of a frame once its head is read
-      pub frame-end : (judged : Bool) (l : List ℕ) (h : Head) (t : List ℕ) → (frame_head_format i limits judged).read l ≡ got h t
-          → (skip (frame_format i limits contact judged)).read l ≡ (skip (times h.count contact)).read t
-      unfolding frame_format
-      frame-end judged l h t e = rw e (skipped-made {A = List C} {B = Frame C} (λ cs. record { offset = h.offset; contacts = cs }) ((times h.count contact).read t))
 
       -- what is read where 11 is judged is read where it is not
       pub frame-freed : (b : Bool) (l : List ℕ) (f : Frame C) (t : List ℕ) → frames_by b l ≡ got f t → frames_by false l ≡ got f t

@@ -7,10 +7,10 @@ use native.Mathlib.Omega.{arith}
 use lib.ListN.{length, take, drop, length-drop}
 use lib.Seq.{length-take-le}
 use Rattle.entries.specs.Entries.{front_of}
-use Rattle.entries.specs.declared.Front.TheVariants as Front
+use Rattle.std.specs.Prelude.{Some}
 use Rattle.entries.proofs.Laws.{front-inside}
 
-pub entry-inside : (file : List ℕ) (from n : ℕ) → from ≤ length file → front_of (take (length file - from) (drop from file)) ≡ Front.Entry n → from + (2 + n) ≤ length file
+pub entry-inside : (file : List ℕ) (from n : ℕ) → from ≤ length file → front_of (take (length file - from) (drop from file)) ≡ Some n → from + (2 + n) ≤ length file
 entry-inside file from n h e =
     let l : length (take (length file - from) (drop from file)) ≡ length file - from = length-take-le (length file - from) (drop from file) (simp length-drop (omega arith)) in
     omega (arith, front-inside (take (length file - from) (drop from file)) n e)

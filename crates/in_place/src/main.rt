@@ -7,7 +7,6 @@ ghost use Rattle.std.specs.Prelude.{◌≤◌, length};
 ghost use Rattle.lines.specs.Page.{text_of, Added, Prints};
 ghost use Rattle.in_place.specs.Line.{line_most, left_text, line_of, cut_line, Stands};
 
-use entries::Front;
 use receiver::{Answer, Marks};
 
 // Standard input, as the system numbers it.
@@ -65,17 +64,15 @@ fn run(file: &[u8], page: &mut [u8], output: &mut [u8]) -> usize
     let mut at: usize = 0;
     let mut from: usize = 0;
     while from < file.len() {
-        let front = entries::read_front(&file[from..]);
-        let Front::Entry(n) = front else {
+        let Some(n) = entries::read_front(&file[from..]) else {
             return add_last(page, at, number);
         };
         let start = from + 2;
         let end = start + n;
         let received = lent::receive_lent(receiver, &file[start..end], output);
         receiver = received.receiver;
-        let states = receiver.states;
         let marks = receiver::marks_of(receiver);
-        let active = contacts::count_active(&states);
+        let active = contacts::count_active(&receiver.states);
         at = add_line(page, at, number, received.answer, marks, active);
         number += 1;
         from = end;
@@ -98,8 +95,7 @@ fn run_parts(file: &[u8], page: &mut [u8], output: &mut [u8]) -> usize
     let mut at: usize = 0;
     let mut from: usize = 0;
     while from < file.len() {
-        let front = entries::read_front(&file[from..]);
-        let Front::Entry(n) = front else {
+        let Some(n) = entries::read_front(&file[from..]) else {
             return add_last(page, at, number);
         };
         let start = from + 2;

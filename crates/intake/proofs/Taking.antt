@@ -1,5 +1,6 @@
 -- The entries that a file gives, and how each turn of the loop over them brings it nearer to the whole.
 -- Assumes nothing.
+use Rattle.std.specs.Prelude.{Option, Some, None}
 use Prim.Native.Nat.{ℕ, zero, suc, ◌+◌, ◌-◌, ◌*◌, ◌/◌, ◌≤◌, ◌<◌}
 use mathlib.Core.Path.{◌≡◌, refl, sym, ap, ◌∙◌}
 use mathlib.Core.Bool.{Bool, true, false, cond}
@@ -14,7 +15,6 @@ use lib.Seq.{length-take-le, drop-drop}
 use Rattle.slices.specs.Writing.{laid}
 use Rattle.slices.proofs.Tails.{laid_at, laid_none, tail-is, wrote as wrote_on}
 use Rattle.entries.specs.Entries.{front_of}
-use Rattle.entries.specs.declared.Front.{Front}
 use Rattle.entries.proofs.Laws.{front-inside}
 use Rattle.house.specs.Fields.{record_bytes}
 use Rattle.machine.specs.Table.{contacts}
@@ -30,25 +30,25 @@ use Rattle.intake.specs.Feeding.{next_in, sent_from, with_entry, fed_from, entry
 
 -- ---- the entry at the front
 
-no_part : {P : Type 0} (n : ℕ) → Front.Part ≡ Front.Entry n → P
+no_part : {P : Type 0} (n : ℕ) → None ≡ Some n → P
 no_part n e = absurd (let z : ◌≡◌ {A = ℕ} 0 1 = cc in omega arith)
 
 -- there is room for it, and it is whole
-next-front : (least : ℕ) (file : List ℕ) (room n : ℕ) → next_in least file room ≡ Front.Entry n → front_of file ≡ Front.Entry n
+next-front : (least : ℕ) (file : List ℕ) (room n : ℕ) → next_in least file room ≡ Some n → front_of file ≡ Some n
 next-front least file room n e = go (leb least room) e
   where
-    go : (b : Bool) → cond b (front_of file) Front.Part ≡ Front.Entry n → front_of file ≡ Front.Entry n
+    go : (b : Bool) → cond b (front_of file) None ≡ Some n → front_of file ≡ Some n
     go true e = e
     go false e = no_part n e
 
-pub next-room : (least : ℕ) (file : List ℕ) (room n : ℕ) → next_in least file room ≡ Front.Entry n → least ≤ room
+pub next-room : (least : ℕ) (file : List ℕ) (room n : ℕ) → next_in least file room ≡ Some n → least ≤ room
 next-room least file room n e = go (leb least room) refl e
   where
-    go : (b : Bool) → leb least room ≡ b → cond b (front_of file) Front.Part ≡ Front.Entry n → least ≤ room
+    go : (b : Bool) → leb least room ≡ b → cond b (front_of file) None ≡ Some n → least ≤ room
     go true k e = leb-true _ _ k
     go false k e = no_part n e
 
-next-inside : (least : ℕ) (file : List ℕ) (room n : ℕ) → next_in least file room ≡ Front.Entry n → 2 + n ≤ length file
+next-inside : (least : ℕ) (file : List ℕ) (room n : ℕ) → next_in least file room ≡ Some n → 2 + n ≤ length file
 next-inside least file room n e = front-inside file n (next-front least file room n e)
 
 pub entry-message-long : (file : List ℕ) (n : ℕ) → 2 + n ≤ length file → length (take n (drop 2 file)) ≡ n
@@ -56,9 +56,9 @@ entry-message-long file n h = length-take-le n (drop 2 file) (omega (arith, leng
 
 -- ---- the entries that are fed
 
-pub by_front : (P : List Sent → Type 0) (f : Front) (more : ℕ → List Sent) → P [] → ((n : ℕ) → f ≡ Front.Entry n → P (more n)) → P (with_entry f more)
-by_front P (Front.Entry n) more none some = some n refl
-by_front P Front.Part more none some = none
+pub by_front : (P : List Sent → Type 0) (f : Option ℕ) (more : ℕ → List Sent) → P [] → ((n : ℕ) → f ≡ Some n → P (more n)) → P (with_entry f more)
+by_front P (Some n) more none some = some n refl
+by_front P None more none some = none
 
 -- as many as there are places at most
 pub fed-few : (least k : ℕ) (r : Receiver) (file : List ℕ) (room : ℕ) → length (fed_from least k r file room) ≤ k
@@ -83,12 +83,12 @@ unfolding answers_to
 answers-long r [] = refl
 answers-long r (x ∷ h) = omega (arith, answers-long (next r x) h)
 
-pub fed-none : (least k : ℕ) (r : Receiver) (file : List ℕ) (room : ℕ) → next_in least file room ≡ Front.Part → fed_from least k r file room ≡ []
+pub fed-none : (least k : ℕ) (r : Receiver) (file : List ℕ) (room : ℕ) → next_in least file room ≡ None → fed_from least k r file room ≡ []
 unfolding fed_from
 fed-none least zero r file room e = refl
 fed-none least (suc k) r file room e = rw e
 
-pub fed-more : (least k : ℕ) (r : Receiver) (file : List ℕ) (room n : ℕ) → next_in least file room ≡ Front.Entry n
+pub fed-more : (least k : ℕ) (r : Receiver) (file : List ℕ) (room n : ℕ) → next_in least file room ≡ Some n
     → let x : Sent = sent_from n file room in fed_from least (suc k) r file room ≡ x ∷ fed_from least k (next r x) (drop (n + 2) file) (room - length (wrote r x))
 unfolding fed_from
 fed-more least k r file room n e = rw e
@@ -222,16 +222,16 @@ module _ (least : ℕ) (r : Receiver) (file a₀ o₀ : List ℕ) (f : Fed) (a o
   space-long : length space ≡ room
   space-long = ap length (tail-is o (record_bytes * f.records)) ∙ length-drop (record_bytes * f.records) o
 
-  at_rest : (p : Front) → next_in least rest room ≡ p → next_in least (drop f.used file) room ≡ p
+  at_rest : (p : Option ℕ) → next_in least rest room ≡ p → next_in least (drop f.used file) room ≡ p
   at_rest p e = (λ i. next_in least (sym (tail-is file f.used) i) room) ∙ e
 
-  pub stands-stop : next_in least rest room ≡ Front.Part → TakesEntries least r file f a₀ a o₀ o
-  stands-stop e = stopped (fed-none least _ f.receiver (drop f.used file) room (at_rest Front.Part e))
+  pub stands-stop : next_in least rest room ≡ None → TakesEntries least r file f a₀ a o₀ o
+  stands-stop e = stopped (fed-none least _ f.receiver (drop f.used file) room (at_rest None e))
 
   -- an entry at the front, of a message of n bytes
-  module _ (n : ℕ) (e : next_in least rest room ≡ Front.Entry n) where
+  module _ (n : ℕ) (e : next_in least rest room ≡ Some n) where
     pub found_inside : f.used + 2 + n ≤ length file
-    found_inside = omega (arith, s.used, next-inside least (drop f.used file) room n (at_rest (Front.Entry n) e), length-drop f.used file)
+    found_inside = omega (arith, s.used, next-inside least (drop f.used file) room n (at_rest (Some n) e), length-drop f.used file)
 
     abbrev message : List ℕ
     message = take (f.used + 2 + n - (f.used + 2)) (drop (f.used + 2) file)
@@ -243,7 +243,7 @@ module _ (least : ℕ) (r : Receiver) (file a₀ o₀ : List ℕ) (f : Fed) (a o
     message-is = let z : f.used + 2 + n - (f.used + 2) ≡ n = omega arith in λ i. take (z i) (sym (drop-drop 2 f.used file) i)
 
     x-long : length x.message ≡ n
-    x-long = entry-message-long (drop f.used file) n (next-inside least (drop f.used file) room n (at_rest (Front.Entry n) e))
+    x-long = entry-message-long (drop f.used file) n (next-inside least (drop f.used file) room n (at_rest (Some n) e))
 
     module _ (q : Receiver) (b : Answer) (l : List ℕ) (k : Receives f.receiver message space q b l) where
       step : Step f.receiver x space q b l
@@ -284,7 +284,7 @@ module _ (least : ℕ) (r : Receiver) (file a₀ o₀ : List ℕ) (f : Fed) (a o
         came : coming least (length a₀ / answer_numbers) file f (length o) ≡ x ∷ more
         came =
             let p : length a₀ / answer_numbers - f.entries ≡ suc left = omega (arith, places) in
-            ap (λ (j : ℕ). fed_from least j f.receiver (drop f.used file) room) p ∙ fed-more least left f.receiver (drop f.used file) room n (at_rest (Front.Entry n) e)
+            ap (λ (j : ℕ). fed_from least j f.receiver (drop f.used file) room) p ∙ fed-more least left f.receiver (drop f.used file) room n (at_rest (Some n) e)
 
         room-left : record_bytes * f.records + length (wrote f.receiver x ++ written (next f.receiver x) more) ≤ length o
         room-left =

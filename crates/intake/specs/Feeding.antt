@@ -1,8 +1,7 @@
 -- Document 01, "A bench file": which entries of a file are fed to a receiver, as a history, and what the call for them answers and leaves.
-use Rattle.std.specs.Prelude.{ℕ, zero, suc, ◌+◌, ◌-◌, ◌*◌, ◌/◌, ◌≤◌, ◌≡◌, cond, List, [], ◌∷◌, ◌++◌, leb, length, take, drop}
+use Rattle.std.specs.Prelude.{ℕ, zero, suc, ◌+◌, ◌-◌, ◌*◌, ◌/◌, ◌≤◌, ◌≡◌, cond, List, [], ◌∷◌, ◌++◌, leb, length, take, drop, Option, Some, None}
 use Rattle.slices.specs.Writing.{laid}
 use Rattle.entries.specs.Entries.{front_of}
-use Rattle.entries.specs.declared.Front.{Front}
 use Rattle.house.specs.Fields.{record_bytes}
 use Rattle.machine.specs.Machine.{Arrays}
 use Rattle.receiver.specs.Receive.{of_parts}
@@ -15,16 +14,16 @@ use Rattle.intake.specs.declared.FedParts.{FedParts}
 -- ---- the entries that are fed
 
 -- what is taken next where so much output is left: the entry at the front of the file, and nothing with less than `least` left
-abbrev pub next_in : ℕ → List ℕ → ℕ → Front
-next_in least file room = cond (leb least room) (front_of file) Front.Part
+abbrev pub next_in : ℕ → List ℕ → ℕ → Option ℕ
+next_in least file room = cond (leb least room) (front_of file) None
 
 -- the message of n bytes at the front of the file, lent the output that is left
 abbrev pub sent_from : ℕ → List ℕ → ℕ → Sent
 sent_from n file room = record { message = take n (drop 2 file); room = room }
 
-abbrev pub with_entry : Front → (ℕ → List Sent) → List Sent
-with_entry (Front.Entry n) more = more n
-with_entry Front.Part more = []
+abbrev pub with_entry : Option ℕ → (ℕ → List Sent) → List Sent
+with_entry (Some n) more = more n
+with_entry None more = []
 
 -- the entries at the front of a file, so many at most, each with the output that the ones before it left
 unfoldable pub fed_from : ℕ → ℕ → Receiver → List ℕ → ℕ → List Sent

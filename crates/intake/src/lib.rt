@@ -7,7 +7,6 @@ ghost use Rattle.contacts.specs.Ruling.{arrays_from};
 ghost use Rattle.receiver.specs.Receive.{of_parts};
 ghost use Rattle.intake.specs.Feeding.{next_in, answer_numbers, numbers_of, fed_of, TakesEntries};
 
-use entries::Front;
 use receiver::{Answer, Marks, Receiver};
 
 // How many numbers an answer has: the refusal, frames injected, ignored and cancelled, encodeTime, records.
@@ -32,11 +31,11 @@ pub struct FedParts {
 }
 
 // The entry at the front of a part of a bench file, if it is whole and at least so much output is left.
-fn next_entry(file: &[u8], least: usize, room: usize) -> Front
+fn next_entry(file: &[u8], least: usize, room: usize) -> Option<usize>
     ensures { result ≡ next_in least file.now room }
 {
     if room < least {
-        return Front::Part;
+        return None;
     }
     entries::read_front(file)
 }
@@ -46,12 +45,11 @@ fn put_answer(answers: &mut [u32], answer: Answer)
     requires { (answer_numbers ≤ length answers.old) × (answer.records < 4294967296) }
     ensures { answers.new ≡ laid answers.old (numbers_of answer) }
 {
-    let time = answer.time;
     answers[0] = answer.refusal as u32;
     answers[1] = answer.injected as u32;
     answers[2] = answer.ignored as u32;
     answers[3] = answer.cancelled as u32;
-    answers[4] = time.0;
+    answers[4] = answer.time.0;
     answers[5] = answer.records as u32;
 }
 
@@ -70,7 +68,6 @@ pub fn feed_parts(
 ) -> FedParts
     ensures { TakesEntries least (of_parts marks (arrays_from states.old xs.old ys.old held.old)) file.now (fed_of result (arrays_from states.new xs.new ys.new held.new)) answers.old answers.new output.old output.new }
 {
-    contacts::is_whole(*states);
     let places = answers.len() / ANSWER_NUMBERS;
     let mut entries: usize = 0;
     let mut used: usize = 0;
@@ -78,7 +75,7 @@ pub fn feed_parts(
     while entries < places {
         let end = house::RECORD_BYTES * records;
         let next = next_entry(&file[used..], least, output.len() - end);
-        let Front::Entry(n) = next else {
+        let Some(n) = next else {
             break;
         };
         let from = used + 2;
@@ -101,10 +98,10 @@ pub fn feed_parts(
         records += turn.answer.records;
     }
     FedParts {
-        marks: marks,
-        entries: entries,
-        used: used,
-        records: records,
+        marks,
+        entries,
+        used,
+        records,
     }
 }
 

@@ -12,7 +12,7 @@ use lib.Dec.{ltb, leb, eqb, lit<}
 use lib.ListN.{length, get_or, take, drop, length-append}
 use lib.Seq.{take_at, take-append-le, length-take-le}
 use lib.Arith.{digits_div, digits_mod}
-use borrow.Author.Tests.{ltb-true, ltb-false, lt-ltb, le-ltb, eqb-true, eq-eqb, ne_eqb, leb-true, le-leb, lt-leb}
+use borrow.Author.Tests.{ltb-true, ltb-false, lt-ltb, le-ltb, eqb-true, eq-eqb, leb-true, le-leb}
 use Rattle.paper.specs.Refusals.{truncated, not_shortest, bad_range}
 use Rattle.digits.specs.Digits.{joined, digits, Bytes}
 use Rattle.digits.proofs.Laws.{bytes_take, pow_pos, joined-whole, joined-div, joined_small, digits-joined, length_digits}
@@ -166,19 +166,10 @@ only-value t (value a b c) s m n e = go (eqb (fewest furthest t b + 1) c) (leb a
     go true false w v e = never not_shortest s m n e
     go false y w v e = never not_shortest s m n e
 
--- the cases of the only form
-module _ (t s m n : ℕ) where
-  pub only-padded : (fewest furthest t m + 1 ≡ n → ⊥) → only t (value s m n) ≡ refused not_shortest
-  unfolding only
-  only-padded h = rw (ne_eqb _ _ h)
-
-  pub only-minus : fewest furthest t m + 1 ≡ n → m < s → only t (value s m n) ≡ refused not_shortest
-  unfolding only
-  only-minus e h = rw (eq-eqb _ _ e, lt-leb _ _ h)
-
-  pub only_same : fewest furthest t m + 1 ≡ n → s ≤ m → only t (value s m n) ≡ value s m n
-  unfolding only
-  only_same e h = rw (eq-eqb _ _ e, le-leb _ _ h)
+-- what is in the only form
+pub only_same : (t s m n : ℕ) → fewest furthest t m + 1 ≡ n → s ≤ m → only t (value s m n) ≡ value s m n
+unfolding only
+only_same t s m n e h = rw (eq-eqb _ _ e, le-leb _ _ h)
 
 -- ---- any form
 
@@ -194,10 +185,6 @@ module _ (s m : ℕ) where
   pub sign_same : s ≤ m → sign_over s m ≡ s
   unfolding sign_over
   sign_same h = rw (le-leb _ _ h)
-
-  pub sign-minus : m < s → sign_over s m ≡ 0
-  unfolding sign_over
-  sign-minus h = rw (lt-leb _ _ h)
 
   pub sign-plain : (sign_over s m ≤ m) × (sign_over s m ≤ s)
   unfolding sign_over

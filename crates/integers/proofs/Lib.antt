@@ -2,7 +2,6 @@ pub mod Fewest
 pub mod ByteOne
 pub mod Laws
 pub mod Signed
-pub mod Taken
 pub mod Table
 pub mod ProvedSet
 pub mod Unique

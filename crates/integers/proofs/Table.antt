@@ -5,6 +5,12 @@ use Prim.Native.Nat.{ℕ, ◌^◌, ◌+◌}
 use mathlib.Core.Path.{◌≡◌, refl}
 use mathlib.Core.List.{List, [], ◌∷◌, map}
 use Rattle.integers.specs.Integer.{tops, limit}
+use Rattle.integers.specs.declared.kinds.Integer.{Ghosts}
+use Rattle.integers.specs.contracts.kinds.U16Integer.TheImpl as U2
+use Rattle.integers.specs.contracts.kinds.I16Integer.TheImpl as S2
+use Rattle.integers.specs.contracts.kinds.U32Integer.TheImpl as U4
+use Rattle.integers.specs.contracts.kinds.I32Integer.TheImpl as S4
+use Rattle.integers.specs.contracts.kinds.U64Integer.TheImpl as U8
 
 -- count bits, sign bits, the value's bits in byte one, and the greatest magnitude
 pub record Kind : Type 0 where
@@ -50,3 +56,11 @@ pub record Tabled (rows : List Kind) : Type 0 where
 pub the-table : Tabled kinds
 unfolding kinds
 the-table = record { whole = refl; byte_one = refl; range = refl }
+
+-- and its rows are what the code says of its five kinds
+abbrev said : {A : Type 0} → Ghosts A → ℕ × ℕ × ℕ
+said i = (i.COUNT_BITS, i.SIGN_BITS, i.GREATEST)
+
+pub the-kinds : map (λ r. (r.counts, r.sign, r.greatest)) kinds ≡ said U2.ghosts ∷ said S2.ghosts ∷ said U4.ghosts ∷ said S4.ghosts ∷ said U8.ghosts ∷ []
+unfolding kinds
+the-kinds = refl

@@ -83,11 +83,6 @@ reading = reading_by true
 abbrev pub any_reading : ℕ → ℕ → List ℕ → Reading
 any_reading = reading_by false
 
--- the number of a refusal, and 0 of a value
-abbrev pub refusal_of : Reading → ℕ
-refusal_of (value s m n) = 0
-refusal_of (refused e) = e
-
 -- ---- writing
 
 -- sign s and magnitude m with c further bytes

@@ -109,9 +109,9 @@ pub fn kangirlo_write_client_ready(
     ensures { Writes (client_ready_draft (record { flags = flags; version = version; most = most })) result output.old output.new }
 {
     let ready = Ready {
-        flags: flags,
-        version: version,
-        most: most,
+        flags,
+        version,
+        most,
     };
     message_writers::write_client_ready(output, ready)
 }

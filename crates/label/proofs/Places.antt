@@ -1,50 +1,49 @@
--- Places in a list of buttons: how far from its start they are, which of them a search ends at, and what is hit there.
+-- Places in a list of buttons: which of them a search ends at, and what is hit there.
 -- Assumes nothing.
-use Prim.Native.Nat.{ℕ, zero, suc, ◌<◌}
-use mathlib.Core.Path.{◌≡◌, refl, sym, ap, subst, ◌∙◌}
-use mathlib.Core.Bool.{true, false, cond, not, ◌&&◌}
-use mathlib.Core.List.{List, [], ◌∷◌}
-use native.Mathlib.Omega.{arith}
+use Rattle.std.proofs.Common.{◌≡◌, ℕ, suc, ◌≤◌, Bool, true, false, cond, List, [], ◌∷◌, length, refl, sym, ap, ◌∙◌, arith, Some, None, Option, ltb, ltb-false}
+use Rattle.std.specs.List.{position_or_len}
+use Rattle.std.specs.Option.{unwrap_or}
+use Rattle.std.proofs.lemmas.List.Recursion.{is_position_or_len}
 use lib.IntN.{ℤ}
 use mir.Syntax.{w32}
 use mir.Val.{SFits, of_z, to_z}
 use Rattle.std.proofs.lemmas.Int.{to_z-of_z}
-use borrow.Author.Tests.{not-true, not-false, lt-ltb}
-use lib.Dec.{T as Holds, leb-suc-suc}
-use lib.ListN.{length}
 use Rattle.house.specs.declared.Point.{Point}
-use Rattle.presses.specs.Buttons.{holds, button_at, first_holding, nowhere, hit_of, hit_in}
-use Rattle.presses.specs.Turns.{look_at, hit_at}
+use Rattle.presses.specs.Buttons.{holds, first_holding, nowhere, hit_of, hit_in}
+use Rattle.presses.specs.Turns.{look_at, hit_by, hit_at}
 use Rattle.presses.specs.declared.Button.{Button}
-use Rattle.presses.specs.declared.Look.{Look}
-use Rattle.label.specs.Lists.{passed}
 
--- past the first button, and past one behind it
-passed_first : (b : Button) (bs : List Button) (p : Point) → passed (b ∷ bs) 0 p ≡ not (holds b p)
-passed_first b bs p = ap (λ t. t && not (holds b p)) (lt-ltb 0 (suc (length bs)) (omega arith))
-
-passed-behind : (b : Button) (bs : List Button) (k : ℕ) (p : Point) → passed (b ∷ bs) (suc k) p ≡ passed bs k p
-passed-behind b bs k p = ap (λ t. t && not (holds (button_at bs k) p)) (leb-suc-suc (suc k) (length bs))
-
--- THE PLACE that a search ends at: it passes each place before the first shown button that holds the point, and no further
-pub first-place : (bs : List Button) (p : Point) (r : ℕ) → ((k : ℕ) → k < r → passed bs k p ≡ true) → passed bs r p ≡ false → r ≡ first_holding bs p
+-- THE PLACE that a search ends at, the list's length where it finds none
+found-within : (bs : List Button) (p : Point) → first_holding bs p ≤ length bs
 unfolding first_holding
-first-place [] p zero past end = refl
-first-place [] p (suc r) past end = absurd (subst Holds (sym (past 0 (omega arith))) tt)
-first-place (b ∷ bs) p zero past end = rw (not-false (holds b p) (sym (passed_first b bs p) ∙ end))
-first-place (b ∷ bs) p (suc r) past end =
-    rw (not-true (holds b p) (sym (passed_first b bs p) ∙ past 0 (omega arith)))
-    (ap suc (first-place bs p r (λ k l. sym (passed-behind b bs k p) ∙ past (suc k) (omega (arith, l))) (sym (passed-behind b bs r p) ∙ end)))
+found-within [] p = omega arith
+found-within (b ∷ bs) p = go (holds b p) (found-within bs p)
+  where
+    go : (there : Bool) → first_holding bs p ≤ length bs → cond there 0 (suc (first_holding bs p)) ≤ suc (length bs)
+    go true h = omega arith
+    go false h = omega (arith, h)
+
+found-or : (n m : ℕ) → n ≤ m → unwrap_or (cond (ltb n m) (Some n) None) m ≡ n
+found-or n m h = go (ltb n m) refl
+  where
+    go : (b : Bool) → ltb n m ≡ b → unwrap_or (cond b (Some n) None) m ≡ n
+    go true e = refl
+    go false e = omega (arith, h, ltb-false _ _ e)
+
+pub first-found : (bs : List Button) (p : Point) → let n = position_or_len (λ b. holds b p) bs in unwrap_or (cond (ltb n (length bs)) (Some n) None) (length bs) ≡ first_holding bs p
+unfolding first_holding
+first-found bs p =
+    let e : first_holding bs p ≡ position_or_len (λ b. holds b p) bs = is_position_or_len (λ l. first_holding l p) (λ b. holds b p) refl (λ b l. ap (cond (holds b p) 0) (omega arith)) bs in
+    ap (λ (n : ℕ). unwrap_or (cond (ltb n (length bs)) (Some n) None) (length bs)) (sym e) ∙ found-or (first_holding bs p) (length bs) (found-within bs p)
 
 -- the hit at the place of a point that is looked at, and none where none is
-pub hit-due : (bs : List Button) (l : List ℕ) (at : ℕ) (look : Look) (place : ℕ) → look ≡ look_at l at → look.due ≡ true → place ≡ first_holding bs look.point → hit_of bs place ≡ hit_at (hit_in bs) l at
+pub hit-due : (bs : List Button) (l : List ℕ) (at : ℕ) (look : Option Point) (p : Point) (place : ℕ) → look ≡ look_at l at → look ≡ Some p → place ≡ first_holding bs p → hit_of bs place ≡ hit_at (hit_in bs) l at
 unfolding hit_in hit_at
-hit-due bs l at look place e due p =
-    ap (λ n. hit_of bs n) p ∙ ap (λ d. hit_in bs d.point) e ∙ ap (λ t. cond t (hit_in bs (look_at l at).point) nowhere) (sym due ∙ ap (λ d. d.due) e)
+hit-due bs l at look p place e f g = ap (hit_of bs) g ∙ ap (hit_by (hit_in bs)) (sym f ∙ e)
 
-pub hit-none : (bs : List Button) (l : List ℕ) (at : ℕ) (look : Look) → look ≡ look_at l at → look.due ≡ false → nowhere ≡ hit_at (hit_in bs) l at
+pub hit-none : (bs : List Button) (l : List ℕ) (at : ℕ) (look : Option Point) → look ≡ look_at l at → look ≡ None → nowhere ≡ hit_at (hit_in bs) l at
 unfolding hit_at
-hit-none bs l at look e due = ap (λ t. cond t (hit_in bs (look_at l at).point) nowhere) (sym due ∙ ap (λ d. d.due) e)
+hit-none bs l at look e f = ap (hit_by (hit_in bs)) (sym f ∙ e)
 
 abbrev pub record_point : ℤ → ℤ → Point
 record_point x y = record { x = x; y = y }

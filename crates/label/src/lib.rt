@@ -4,8 +4,9 @@
 ghost use Rattle.std.specs.Prelude.{◌≡◌};
 ghost use Rattle.presses.specs.Buttons.{first_holding, hit_in, SetsShown};
 ghost use Rattle.presses.specs.Choosing.{Chooses};
-ghost use Rattle.presses.specs.Turns.{chosen_as};
+ghost use Rattle.presses.specs.Turns.{chosen_as, ruling_number};
 
+use paper::Refusal;
 use presses::{Button, Picked};
 
 mod drive;
@@ -15,11 +16,10 @@ mod search;
 pub fn kangirlo_button_at(buttons: &[Button], x: i32, y: i32) -> usize
     ensures { result ≡ first_holding buttons.now (record { x = x; y = y }) }
 {
-    let mut at: usize = 0;
-    while search::passes(buttons, at, x, y) {
-        at += 1;
-    }
-    at
+    buttons
+        .iter()
+        .position(|button| presses::is_in(*button, x, y))
+        .unwrap_or(buttons.len())
 }
 
 // Shows or hides the button at a place, and answers whether there is one.
@@ -31,6 +31,16 @@ pub fn kangirlo_set_shown(buttons: &mut [Button], place: usize, shown: u8) -> bo
         true
     } else {
         false
+    }
+}
+
+// The number of a ruling: of its refusal, or 0 for none.
+fn number_of(ruling: Result<(), Refusal>) -> u8
+    ensures { result ≡ ruling_number ruling }
+{
+    match ruling {
+        Ok(()) => 0,
+        Err(refusal) => refusal.number(),
     }
 }
 
@@ -59,7 +69,7 @@ pub fn kangirlo_choose_parts(
         choices,
         false,
     );
-    let refusal = taken_records::rule(*states, records, tried.count, numbers);
+    let refusal = number_of(taken_records::rule(*states, records, tried.count, numbers));
     let start = presses::writing_from(refusal, bytes);
     let run = drive::drive(states, pressed, start, buttons, records, choices, true);
     presses::conclude(refusal, run)

@@ -13,6 +13,6 @@ pub fn receive_lent(receiver: Receiver, message: &[u8], output: &mut [u8]) -> Re
     let answer = kangirlo::kangirlo_receive(&mut kept, message, output);
     Received {
         receiver: kept,
-        answer: answer,
+        answer,
     }
 }

@@ -69,10 +69,8 @@ fn add_hexes(page: &mut [u8], place: usize, bytes: &[u8]) -> usize
     ensures { Added (hexes bytes.now) place result page.old page.new }
 {
     let mut at = place;
-    let mut i: usize = 0;
-    while i < bytes.len() {
-        at = add_hex(page, at, bytes[i]);
-        i += 1;
+    for &byte in bytes {
+        at = add_hex(page, at, byte);
     }
     at
 }

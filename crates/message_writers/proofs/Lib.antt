@@ -1,4 +1,3 @@
-pub mod Front
 pub mod Writing
 pub mod RoundTrip
 pub mod Unique

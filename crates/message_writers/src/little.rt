@@ -13,23 +13,21 @@ pub(crate) fn put_one(out: &mut [u8], v: u8) -> usize
 }
 
 // The two bytes of v.
+#[tactic(auto, unfolding(formats::specs::Format::write_little))]
 pub(crate) fn put_two(out: &mut [u8], v: u16) -> usize
     requires { 2 ≤ length out.old }
     ensures { Put (write_little 2 v) result out.old out.new }
 {
-    out[0] = (v % 256) as u8;
-    out[1] = (v / 256 % 256) as u8;
+    out[..2].copy_from_slice(&v.to_le_bytes());
     2
 }
 
 // The four bytes of v.
+#[tactic(auto, unfolding(formats::specs::Format::write_little))]
 pub(crate) fn put_four(out: &mut [u8], v: u32) -> usize
     requires { 4 ≤ length out.old }
     ensures { Put (write_little 4 v) result out.old out.new }
 {
-    out[0] = (v % 256) as u8;
-    out[1] = (v / 256 % 256) as u8;
-    out[2] = (v / 256 / 256 % 256) as u8;
-    out[3] = (v / 256 / 256 / 256 % 256) as u8;
+    out[..4].copy_from_slice(&v.to_le_bytes());
     4
 }

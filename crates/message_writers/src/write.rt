@@ -1,31 +1,14 @@
 // The writers: the meaning, then room for the whole, and only then the bytes, each field from where the last one ended.
-ghost use Rattle.std.specs.Prelude.{◌≡◌, ◌≤◌, length};
-ghost use Rattle.slices.specs.Writing.{bytes, refuse, answered, Writes};
+ghost use Rattle.std.specs.Prelude.{◌≤◌, length};
+ghost use Rattle.slices.specs.Writing.{bytes, Writes};
 ghost use Rattle.messages.specs.Header.{header, header_bytes};
 ghost use Rattle.messages.specs.Bodies.{ready, server_ready_draft, client_ready_draft, suspend_draft, resume_draft, dismiss_draft};
 ghost use Rattle.message_writers.specs.Put.{Put};
 
 use crate::little::{put_four, put_one, put_two};
 use messages::Ready;
+use paper::Refusal;
 use slices::Written;
-
-fn refused(refusal: u8) -> Written
-    ensures { result ≡ answered (refuse refusal) }
-{
-    Written {
-        refusal: refusal,
-        bytes: 0,
-    }
-}
-
-fn written(count: usize) -> Written
-    ensures { result ≡ record { refusal = 0; bytes = count } }
-{
-    Written {
-        refusal: 0,
-        bytes: count,
-    }
-}
 
 // The header's six bytes; total counts them too.
 fn put_header(out: &mut [u8], event: u16, total: u32) -> usize
@@ -50,46 +33,46 @@ pub fn write_header(out: &mut [u8], event: u16, total: u32) -> Written
     ensures { Writes (bytes (header event total)) result out.old out.new }
 {
     if out.len() < messages::HEADER_BYTES {
-        return refused(paper::NO_ROOM);
+        return Written::refused(Refusal::NoRoom);
     }
-    written(put_header(out, event, total))
+    Written::done(put_header(out, event, total))
 }
 
 pub fn write_server_ready(out: &mut [u8], version: u32) -> Written
     ensures { Writes (server_ready_draft version) result out.old out.new }
 {
     if !messages::is_version(version) {
-        return refused(paper::BAD_FIELD);
+        return Written::refused(Refusal::BadField);
     }
     if out.len() < messages::SERVER_READY_BYTES {
-        return refused(paper::NO_ROOM);
+        return Written::refused(Refusal::NoRoom);
     }
     let at = put_header(
         out,
         messages::SERVER_READY,
         messages::SERVER_READY_BYTES as u32,
     );
-    written(at + put_four(&mut out[at..], version))
+    Written::done(at + put_four(&mut out[at..], version))
 }
 
 pub fn write_client_ready(out: &mut [u8], settings: Ready) -> Written
     ensures { Writes (client_ready_draft settings) result out.old out.new }
 {
     if messages::FLAGS_END <= settings.flags {
-        return refused(paper::BAD_FIELD);
+        return Written::refused(Refusal::BadField);
     }
     if !messages::is_version(settings.version) {
-        return refused(paper::BAD_FIELD);
+        return Written::refused(Refusal::BadField);
     }
     if out.len() < messages::CLIENT_READY_BYTES {
-        return refused(paper::NO_ROOM);
+        return Written::refused(Refusal::NoRoom);
     }
     let at = put_header(
         out,
         messages::CLIENT_READY,
         messages::CLIENT_READY_BYTES as u32,
     );
-    written(at + put_ready(&mut out[at..], settings))
+    Written::done(at + put_ready(&mut out[at..], settings))
 }
 
 pub fn write_suspend(out: &mut [u8]) -> Written
@@ -108,8 +91,8 @@ pub fn write_dismiss(out: &mut [u8], id: u8) -> Written
     ensures { Writes (dismiss_draft id) result out.old out.new }
 {
     if out.len() < messages::DISMISS_BYTES {
-        return refused(paper::NO_ROOM);
+        return Written::refused(Refusal::NoRoom);
     }
     let at = put_header(out, messages::DISMISS, messages::DISMISS_BYTES as u32);
-    written(at + put_one(&mut out[at..], id))
+    Written::done(at + put_one(&mut out[at..], id))
 }

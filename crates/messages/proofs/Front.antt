@@ -10,20 +10,20 @@ use Rattle.paper.specs.Refusals.{truncated}
 use Rattle.formats.specs.Format.{got, bad, read_byte, read_little}
 
 -- 5: too few bytes for the number
-pub little-short : (n : ℕ) (l : List ℕ) → length l < n → read_little n l ≡ bad truncated
+pub little_short : (n : ℕ) (l : List ℕ) → length l < n → read_little n l ≡ bad truncated
 unfolding read_little read_byte
-little-short zero l h = absurd (omega arith)
-little-short (suc n) [] h = refl
-little-short (suc n) (x ∷ l) h = rw (little-short n l (omega arith))
+little_short zero l h = absurd (omega arith)
+little_short (suc n) [] h = refl
+little_short (suc n) (x ∷ l) h = rw (little_short n l (omega arith))
 
-pub little-two : (l : List ℕ) → 2 ≤ length l → read_little 2 l ≡ got (get_or l 1 0 * 256 + get_or l 0 0) (drop 2 l)
+pub little_two : (l : List ℕ) → 2 ≤ length l → read_little 2 l ≡ got (get_or l 1 0 * 256 + get_or l 0 0) (drop 2 l)
 unfolding read_little read_byte
-little-two [] h = absurd (omega arith)
-little-two (a ∷ []) h = absurd (omega arith)
-little-two (a ∷ b ∷ l) h = rw zero-add
+little_two [] h = absurd (omega arith)
+little_two (a ∷ []) h = absurd (omega arith)
+little_two (a ∷ b ∷ l) h = rw zero-add
 
-pub little-four : (l : List ℕ) → 4 ≤ length l → read_little 4 l ≡ got (((get_or l 3 0 * 256 + get_or l 2 0) * 256 + get_or l 1 0) * 256 + get_or l 0 0) (drop 4 l)
+pub little_four : (l : List ℕ) → 4 ≤ length l → read_little 4 l ≡ got (((get_or l 3 0 * 256 + get_or l 2 0) * 256 + get_or l 1 0) * 256 + get_or l 0 0) (drop 4 l)
 unfolding read_little read_byte
-little-four [] h = absurd (omega arith)
-little-four (a ∷ []) h = absurd (omega arith)
-little-four (a ∷ b ∷ l) h = let e = little-two l (omega arith) in rw e
+little_four [] h = absurd (omega arith)
+little_four (a ∷ []) h = absurd (omega arith)
+little_four (a ∷ b ∷ l) h = let e = little_two l (omega arith) in rw e

@@ -1,28 +1,24 @@
 -- The laws of messages, once for all formats of a body: written ones are read back, and what is read is written back to the same bytes.
 -- Assumes nothing.
-use Prim.Native.Nat.{ℕ, ◌+◌, ◌*◌, ◌-◌, ◌≤◌, ◌<◌}
+use Prim.Native.Nat.{ℕ, ◌+◌, ◌≤◌, ◌<◌}
 use mathlib.Core.Path.{◌≡◌, refl, sym, ap, ◌∙◌}
 use mathlib.Core.Bool.{Bool, true, false, cond}
 use mathlib.Core.List.{List, [], ◌∷◌, ◌++◌, append_assoc}
 use native.Mathlib.Omega.{arith}
 use lib.Dec.{ltb, eqb}
-use lib.ListN.{length, get_or, take, drop, length-drop}
+use lib.ListN.{length, drop, length-drop}
 use lib.Seq.{drop-drop, get_or-drop}
-use borrow.Author.Tests.{lt-ltb, le-ltb, eq-eqb, ltb-false, eqb-true}
+use borrow.Author.Tests.{le-ltb, eq-eqb, ltb-false, eqb-true}
 use Rattle.paper.specs.Refusals.{short, too_long, unexpected, bad_length, bad_field, trailing}
 use Rattle.digits.specs.Digits.{Bytes}
 use Rattle.digits.proofs.Laws.{bytes_drop}
 use Rattle.formats.specs.Format.{Got, got, bad, and_then, Format, byte, little, write_little, whole}
 use Rattle.formats.proofs.Laws.{Law, never, little-exact, whole_back, whole-exact, whole-short, whole-sound, done-law, field-law, such-law, byte-law, little-law}
-use Rattle.formats.proofs.Steps.{tail}
 use Rattle.formats.proofs.Order.{Ordered, done-ordered, field-ordered, such-ordered, byte-ordered, little-ordered}
 use Rattle.messages.specs.Header.{header_bytes, most_bytes, event_of, pdu_length, one_of, headed, read_message, header, write_message}
 use Rattle.messages.specs.Bodies.{version, version_listed, ready_flags, flags_listed, ready_by, ready, nothing}
-use Rattle.messages.specs.Answer.{header_got}
-use Rattle.messages.specs.declared.Header.{Header}
-use Rattle.messages.specs.declared.Header.TheVariants as head
 use Rattle.messages.specs.declared.Ready.{Ready}
-use Rattle.messages.proofs.Front.{little-two, little-four}
+use Rattle.messages.proofs.Front.{little_two, little_four}
 
 -- ---- one of those listed
 
@@ -52,31 +48,12 @@ one-of-twice e x = go (eqb x e)
     go true = refl
     go false = refl
 
--- ---- the header, check by check
+-- ---- the header
 
-module _ (events : List ℕ) (l : List ℕ) where
-  pub headed-short : length l < header_bytes → headed events l ≡ bad short
-  unfolding headed
-  headed-short h = rw (lt-ltb _ _ h)
-
-  pub headed-long : most_bytes < length l → headed events l ≡ bad too_long
-  unfolding headed
-  headed-long h =
-      let k : header_bytes ≤ length l = omega arith in
-      rw (le-ltb _ _ k, lt-ltb _ _ h)
-
-  module _ (low : header_bytes ≤ length l) (high : length l ≤ most_bytes) where
-    pub headed-event : one_of events (event_of l) ≡ false → headed events l ≡ bad unexpected
-    unfolding headed
-    headed-event h = rw (le-ltb _ _ low, le-ltb _ _ high, h)
-
-    pub headed-length : one_of events (event_of l) ≡ true → eqb (pdu_length l) (length l) ≡ false → headed events l ≡ bad bad_length
-    unfolding headed
-    headed-length h k = rw (le-ltb _ _ low, le-ltb _ _ high, h, k)
-
-    pub headed-good : one_of events (event_of l) ≡ true → pdu_length l ≡ length l → headed events l ≡ got (event_of l) (drop header_bytes l)
-    unfolding headed
-    headed-good h k = rw (le-ltb _ _ low, le-ltb _ _ high, h, eq-eqb _ _ k)
+-- it is taken where every check passes
+pub headed-good : (events : List ℕ) (l : List ℕ) → header_bytes ≤ length l → length l ≤ most_bytes → one_of events (event_of l) ≡ true → pdu_length l ≡ length l → headed events l ≡ got (event_of l) (drop header_bytes l)
+unfolding headed
+headed-good events l low high h k = rw (le-ltb _ _ low, le-ltb _ _ high, h, eq-eqb _ _ k)
 
 -- what an accepted header says
 pub record Headed (events : List ℕ) (l : List ℕ) (e : ℕ) (b : List ℕ) : Type 0 where
@@ -103,24 +80,9 @@ headed-got events l e b h = go (ltb (length l) header_bytes) refl (ltb most_byte
         record { low = ltb-false _ _ ep; high = ltb-false _ _ eq; takes = ap (one_of events) (sym z) ∙ er; event = z; long = eqb-true _ _ es; body = y }
 
 -- one event, named twice
-pub headed-same : (e : ℕ) (l : List ℕ) → headed (e ∷ e ∷ []) l ≡ headed (e ∷ []) l
+pub headed_same : (e : ℕ) (l : List ℕ) → headed (e ∷ e ∷ []) l ≡ headed (e ∷ []) l
 unfolding headed
-headed-same e l = rw (one-of-twice e (event_of l))
-
--- a message is read by its header, for the one event, and then its body: what the code's answer for the header says of the whole
-module _ (e : ℕ) (l : List ℕ) (r : Header) (h : header_got r l ≡ headed (e ∷ e ∷ []) l) where
-  pub message-refused : {A : Type 0} (f : Format A) (x : ℕ) → r ≡ head.Refused x → read_message e f l ≡ bad x
-  unfolding read_message
-  message-refused f x w = rw (sym (headed-same e l) ∙ sym (rw w at h))
-
-  module _ (x : ℕ) (w : r ≡ head.Event x) where
-    pub message-low : header_bytes ≤ length l
-    message-low = (headed-got (e ∷ e ∷ []) l x (drop header_bytes l) (sym (rw w at h))).low
-
-    -- the body is lent as the message's tail
-    pub message-body : {A : Type 0} (f : Format A) → read_message e f l ≡ whole f trailing (take (length l - header_bytes) (drop header_bytes l))
-    unfolding read_message
-    message-body f = rw (tail l header_bytes, sym (headed-same e l) ∙ sym (rw w at h))
+headed_same e l = rw (one-of-twice e (event_of l))
 
 -- ---- the header's bytes
 
@@ -141,19 +103,13 @@ pub body_back : (e n : ℕ) (t : List ℕ) → drop header_bytes (header e n ++ 
 unfolding write_little
 body_back e n t = refl
 
--- the length field, in the tail from its first byte
-pub length-tail : (l : List ℕ) (n : ℕ)
-    → n ≡ ((get_or (take (length l - 2) (drop 2 l)) 3 0 * 256 + get_or (take (length l - 2) (drop 2 l)) 2 0) * 256 + get_or (take (length l - 2) (drop 2 l)) 1 0) * 256 + get_or (take (length l - 2) (drop 2 l)) 0 0
-    → pdu_length l ≡ n
-length-tail l n h = sym (simp (tail l 2, get_or-drop) at h)
-
 -- and every list that is long enough starts with its header
 pub header-exact : (l : List ℕ) → Bytes l → header_bytes ≤ length l → l ≡ header (event_of l) (pdu_length l) ++ drop header_bytes l
 header-exact l hl h =
-    let two : l ≡ write_little 2 (event_of l) ++ drop 2 l = little-exact 2 l (event_of l) (drop 2 l) hl (little-two l (omega arith)) in
+    let two : l ≡ write_little 2 (event_of l) ++ drop 2 l = little-exact 2 l (event_of l) (drop 2 l) hl (little_two l (omega arith)) in
     let k : 4 ≤ length (drop 2 l) = rw (length-drop 2 l) (omega arith) in
     let four : drop 2 l ≡ write_little 4 (pdu_length l) ++ drop header_bytes l =
-    little-exact 4 (drop 2 l) (pdu_length l) (drop header_bytes l) (bytes_drop 2 l hl) (simp (get_or-drop, drop-drop) at (little-four (drop 2 l) k)) in
+    little-exact 4 (drop 2 l) (pdu_length l) (drop header_bytes l) (bytes_drop 2 l hl) (simp (get_or-drop, drop-drop) at (little_four (drop 2 l) k)) in
     two ∙ ap (λ (x : List ℕ). write_little 2 (event_of l) ++ x) four ∙ sym (append_assoc (write_little 2 (event_of l)) (write_little 4 (pdu_length l)) (drop header_bytes l))
 
 -- the message of a body, whose header says how long it is, is read as its body is

@@ -1,4 +1,3 @@
 pub mod Front
-pub mod Fields
 pub mod Laws
 pub mod Unique

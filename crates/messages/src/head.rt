@@ -1,11 +1,12 @@
 // The header, checks 1 to 4.
 ghost use Rattle.std.specs.Prelude.{◌≡◌, [], ◌∷◌};
+ghost use Rattle.formats.specs.Answer.{read_of};
 ghost use Rattle.messages.specs.Header.{one_of, headed};
-ghost use Rattle.messages.specs.Answer.{header_got, header_fault};
 
-use crate::Header;
 use crate::little::{four, two};
+use paper::Refusal;
 
+#[tactic(auto, unfolding(crate::specs::Header::one_of))]
 fn is_either(event: u16, first: u16, second: u16) -> bool
     ensures { result ≡ one_of (first ∷ second ∷ []) event }
 {
@@ -15,33 +16,24 @@ fn is_either(event: u16, first: u16, second: u16) -> bool
     event == second
 }
 
-// Judges the header of a message for a caller that takes two events, or one named twice.
-pub fn read_header(message: &[u8], first: u16, second: u16) -> Header
-    ensures { header_got result message.now ≡ headed (first ∷ second ∷ []) message.now }
+// The event of a message and its body, for a caller that takes two events, or one named twice.
+#[tactic(auto, unfolding(crate::specs::Header::headed))]
+pub fn read_header(message: &[u8], first: u16, second: u16) -> Result<(u16, &[u8]), Refusal>
+    ensures { read_of result ≡ headed (first ∷ second ∷ []) message.now }
 {
     if message.len() < crate::HEADER_BYTES {
-        return Header::Refused(paper::SHORT);
+        return Err(Refusal::Short);
     }
     if crate::MESSAGE_MOST < message.len() {
-        return Header::Refused(paper::TOO_LONG);
+        return Err(Refusal::TooLong);
     }
     let event = two(message);
     if !is_either(event, first, second) {
-        return Header::Refused(paper::UNEXPECTED);
+        return Err(Refusal::Unexpected);
     }
     let total = four(&message[2..]);
     if total as usize != message.len() {
-        return Header::Refused(paper::BAD_LENGTH);
+        return Err(Refusal::BadLength);
     }
-    Header::Event(event)
-}
-
-// The refusal of a header, to be passed up.
-pub(crate) fn header_fault(header: Header) -> u8
-    ensures { result ≡ header_fault header }
-{
-    match header {
-        Header::Event(_) => 0,
-        Header::Refused(e) => e,
-    }
+    Ok((event, &message[crate::HEADER_BYTES..]))
 }

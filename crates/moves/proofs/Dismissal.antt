@@ -35,21 +35,21 @@ module _ (t : Table) (id : ℕ) where
 
   -- ---- the three ways of meeting the contract
 
-  pub dismisses-nothing : (before : List ℕ) → (state_at t id ≡ hovering → ⊥) → Dismisses id (record { refusal = none; bytes = 0 }) before before t t
-  dismisses-nothing before h =
+  pub dismisses-nothing : (w : Written) (before : List ℕ) → w ≡ record { refusal = none; bytes = 0 } → (state_at t id ≡ hovering → ⊥) → Dismisses id w before before t t
+  dismisses-nothing w before d h =
       let e = keep-bytes touch_view t id h in
       let l : length (dismiss_bytes touch_view t id) ≤ length before = rw e (omega arith) in
       record {
-        writes = writes_nothing (dismiss_bytes touch_view t id) before e;
+        writes = writes_nothing (dismiss_bytes touch_view t id) w before d e;
         table = sym (dismissed-room (length before) l ∙ keep-table t id h);
       }
 
   module _ (h : state_at t id ≡ hovering) where
-    pub dismisses-none : (before : List ℕ) → length before < 21 → Dismisses id (record { refusal = no_room; bytes = 0 }) before before t t
-    dismisses-none before r =
+    pub dismisses-none : (w : Written) (before : List ℕ) → w ≡ record { refusal = no_room; bytes = 0 } → length before < 21 → Dismisses id w before before t t
+    dismisses-none w before d r =
         let l : length before < length (dismiss_bytes touch_view t id) = rw (dismiss-length h) r in
         record {
-          writes = writes-none (dismiss_bytes touch_view t id) _ before before l refl refl;
+          writes = writes-none (dismiss_bytes touch_view t id) w before before l d refl;
           table = sym (dismissed-none (length before) l);
         }
 

@@ -1,15 +1,11 @@
 -- What a frame's contacts leave of the table, as a loop reads them, and that it is what the frame leaves where they can all be read.
 -- Assumes nothing.
-use Prim.Native.Nat.{ℕ, ◌≤◌}
-use mathlib.Core.Path.{◌≡◌, refl, sym, ◌∙◌}
+use Prim.Native.Nat.{ℕ}
+use mathlib.Core.Path.{◌≡◌, refl, ap, ◌∙◌}
 use mathlib.Core.List.{List}
-use native.Mathlib.Omega.{arith}
 use borrow.Author.Tests.{eq-eqb, ne_eqb}
-use lib.ListN.{length, drop}
-use Rattle.formats.specs.Format.{Got, got, bad, Format}
-use Rattle.formats.specs.Answer.{skipped}
-use Rattle.formats.proofs.Laws.{never}
-use Rattle.framing.specs.After.{after_read}
+use Rattle.formats.specs.Format.{got, Format}
+use Rattle.framing.specs.After.{on_read, after_read}
 use Rattle.framing.proofs.After.{read_all}
 use Rattle.states.specs.Table.{out, next}
 use Rattle.house.specs.declared.Contact.{Contact}
@@ -17,7 +13,7 @@ use Rattle.machine.specs.Table.{Table, with_contact, origin}
 use Rattle.machine.specs.Conforms.{next_of, moved, table_after}
 use Rattle.contacts.specs.Touch.{touch_view}
 use Rattle.contacts.specs.Ruling.{contacts_by}
-use Rattle.moves.specs.Moves.{Moves, EndsAt, Ends, Applies}
+use Rattle.moves.specs.Moves.{Moves, behind, Applies}
 
 -- ---- one contact
 
@@ -38,26 +34,10 @@ module _ (format : Format Contact) where
   unfolding table_after
   stored-all = read_all (moved touch_view next) format (table_after touch_view next) (λ a. refl) (λ a c ds. refl)
 
-  pub applies-after : (n : ℕ) (l : List ℕ) (end : ℕ) (t u : Table) (cs : List Contact) (rest : List ℕ) → Applies format n l end t u → contacts_by format n l ≡ got cs rest
+  pub applies-after : (n : ℕ) (l left : List ℕ) (t u : Table) (cs : List Contact) (rest : List ℕ) → Applies format n l left t u → contacts_by format n l ≡ got cs rest
       → u ≡ table_after touch_view next t cs
-  applies-after n l end t u cs rest h e = h.table ∙ stored-all n t l cs rest e
+  applies-after n l left t u cs rest h e = h.table ∙ stored-all n t l cs rest e
 
-  -- ---- where they end
-
-  module _ (n : ℕ) (l : List ℕ) where
-    pub ends-got : (end : ℕ) → got tt (drop end l) ≡ skipped (contacts_by format n l) → end ≤ length l → Ends format n l end
-    ends-got end e h = record { ends = go (contacts_by format n l) e; inside = h }
-      where
-        go : (x : Got (List Contact)) → got tt (drop end l) ≡ skipped x → EndsAt x l end
-        go (got cs t) e = cc
-        go (bad x) e = never x tt (drop end l) (sym e)
-
-    pub ends-bad : (e : ℕ) → bad e ≡ skipped (contacts_by format n l) → Ends format n l 0
-    ends-bad e h = record { ends = go (contacts_by format n l) h; inside = omega arith }
-      where
-        go : (x : Got (List Contact)) → bad e ≡ skipped x → EndsAt x l 0
-        go (got cs t) h = never e tt t h
-        go (bad x) h = refl
-
-  pub ends_read : (n : ℕ) (l : List ℕ) (end : ℕ) (cs : List Contact) (t : List ℕ) → Ends format n l end → contacts_by format n l ≡ got cs t → drop end l ≡ t
-  ends_read n l end cs t h e = rw e at h.ends
+  -- what is behind them
+  pub behind_read : (n : ℕ) (l : List ℕ) (cs : List Contact) (t : List ℕ) → contacts_by format n l ≡ got cs t → behind format n l ≡ t
+  behind_read n l cs t e = ap (on_read l (λ cs t. t)) e

@@ -1,21 +1,19 @@
 -- Two outcomes that a contract of this crate allows are equal, in the answer, in the output and in the table.
+-- Where an answer hands on a slice they are equal but for where its bytes lie.
 -- Assumes nothing.
 use Prim.Native.Nat.{ℕ}
-use mathlib.Core.Path.{◌≡◌, sym, ap, ◌∙◌}
+use mathlib.Core.Path.{◌≡◌, sym, ◌∙◌}
 use mathlib.Core.List.{List}
-use native.Mathlib.Omega.{arith}
-use lib.ListN.{length, length-drop}
 use Rattle.slices.specs.Writing.{bytes, Writes}
 use Rattle.slices.specs.declared.Written.{Written}
 use Rattle.slices.proofs.Laws.{writes-unique}
-use Rattle.formats.specs.Format.{Got, got, bad, Format}
+use Rattle.formats.specs.Format.{Format}
 use Rattle.house.specs.declared.Point.{Point}
 use Rattle.house.specs.declared.Contact.{Contact}
 use Rattle.contacts.specs.Touch.{touch_view}
-use Rattle.contacts.specs.Ruling.{contacts_by}
 use Rattle.machine.specs.Table.{Table, with_contact, resting}
 use Rattle.machine.specs.Machine.{cancels, dismiss_bytes}
-use Rattle.moves.specs.Moves.{Moves, EndsAt, Ends, Applies, Dismisses}
+use Rattle.moves.specs.Moves.{Moves, Applies, Dismisses}
 
 pub store-unique : (id state : ℕ) (place : Point) (t u u' : Table) → u ≡ with_contact t id state place → u' ≡ with_contact t id state place → u ≡ u'
 store-unique id state place t u u' h k = h ∙ sym k
@@ -23,15 +21,8 @@ store-unique id state place t u u' h k = h ∙ sym k
 pub move-contact-unique : (c : Contact) (t u u' : Table) → Moves c t u → Moves c t u' → u ≡ u'
 move-contact-unique c t u u' h k = h ∙ sym k
 
-pub ends-unique : (format : Format Contact) (n : ℕ) (l : List ℕ) (m m' : ℕ) → Ends format n l m → Ends format n l m' → m ≡ m'
-ends-unique format n l m m' h k = go (contacts_by format n l) h.ends k.ends
-  where
-    go : (x : Got (List Contact)) → EndsAt x l m → EndsAt x l m' → m ≡ m'
-    go (bad e) p q = p ∙ sym q
-    go (got cs t) p q = omega (arith, h.inside, k.inside, length-drop m l, length-drop m' l, ap length (p ∙ sym q))
-
-pub apply-unique : (format : Format Contact) (n : ℕ) (l : List ℕ) (m m' : ℕ) (t u u' : Table) → Applies format n l m t u → Applies format n l m' t u' → (m ≡ m') × (u ≡ u')
-apply-unique format n l m m' t u u' h k = (ends-unique format n l m m' h.passed k.passed, h.table ∙ sym k.table)
+pub apply-unique : (format : Format Contact) (n : ℕ) (l m m' : List ℕ) (t u u' : Table) → Applies format n l m t u → Applies format n l m' t u' → (m ≡ m') × (u ≡ u')
+apply-unique format n l m m' t u u' h k = (h.passed ∙ sym k.passed, h.table ∙ sym k.table)
 
 pub rest-all-unique : (u u' : Table) → u ≡ resting → u' ≡ resting → u ≡ u'
 rest-all-unique u u' h k = h ∙ sym k

@@ -1,9 +1,9 @@
 -- What the calls leave of a table of contacts: a frame's contacts as they are read, and a dismissal by the room that it was lent.
-use Rattle.std.specs.Prelude.{ℕ, ◌≤◌, ◌≡◌, cond, List, leb, length, drop}
+use Rattle.std.specs.Prelude.{ℕ, ◌≡◌, cond, List, leb, length}
 use Rattle.slices.specs.Writing.{bytes, Writes}
 use Rattle.slices.specs.declared.Written.{Written}
-use Rattle.formats.specs.Format.{Got, got, bad, Format}
-use Rattle.framing.specs.After.{after_read}
+use Rattle.formats.specs.Format.{Format}
+use Rattle.framing.specs.After.{on_read, after_read}
 use Rattle.states.specs.Table.{next}
 use Rattle.house.specs.declared.Contact.{Contact}
 use Rattle.machine.specs.Table.{Table}
@@ -16,19 +16,14 @@ use Rattle.contacts.specs.Ruling.{contacts_by}
 abbrev pub Moves : Contact → Table → Table → Type 0
 Moves c before after = after ≡ moved touch_view next before c
 
--- where contacts that are read as x end in l, and 0 where they cannot be read
-abbrev pub EndsAt : Got (List Contact) → List ℕ → ℕ → Type 0
-EndsAt (got cs t) l end = drop end l ≡ t
-EndsAt (bad e) l end = end ≡ 0
+-- what is behind n contacts at the front of l; where they cannot all be read nothing is passed
+abbrev pub behind : Format Contact → ℕ → List ℕ → List ℕ
+behind format n l = on_read l (λ cs t. t) (contacts_by format n l)
 
-pub record Ends (format : Format Contact) (n : ℕ) (l : List ℕ) (end : ℕ) : Type 0 where
-  pub ends : EndsAt (contacts_by format n l) l end
-  pub inside : end ≤ length l
-
--- the n contacts at the front of l stored
-pub record Applies (format : Format Contact) (n : ℕ) (l : List ℕ) (end : ℕ) (before after : Table) : Type 0 where
+-- the n contacts at the front of l stored, and what is behind them
+pub record Applies (format : Format Contact) (n : ℕ) (l left : List ℕ) (before after : Table) : Type 0 where
   pub table : after ≡ after_read (moved touch_view next) format n before l
-  pub passed : Ends format n l end
+  pub passed : left ≡ behind format n l
 
 -- a dismissal that finds too little room leaves the table as it was
 unfoldable pub dismissed_in : ℕ → Table → ℕ → Table

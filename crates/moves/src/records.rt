@@ -9,6 +9,7 @@ ghost use Rattle.moves.specs.Moves.{Dismisses};
 
 use crate::table::store;
 use house::{Contact, Point, RECORD_BYTES, Sides};
+use paper::Refusal;
 use slices::Written;
 
 // A contact as it stands in the table, with no optional field.
@@ -27,11 +28,11 @@ fn stored_contact(flags: u8, id: u8, xs: &[i32; 256], ys: &[i32; 256]) -> Contac
         bottom: 0,
     };
     Contact {
-        flags: flags,
+        flags,
         present: 0,
-        id: id,
-        place: place,
-        sides: sides,
+        id,
+        place,
+        sides,
         orientation: 0,
         pressure: 0,
     }
@@ -60,10 +61,7 @@ fn write_cancel(
     let i = id as usize;
     let state = states[i];
     if state == states::OUT {
-        return Written {
-            refusal: 0,
-            bytes: 0,
-        };
+        return Written::done(0);
     }
     let contact = stored_contact(cancel_flags(state), id, xs, ys);
     packing::write_contact(out, house::CANCELLED, contact)
@@ -80,22 +78,14 @@ pub fn write_cancels(
 {
     let active = contacts::count_active(states) as usize;
     if out.len() < RECORD_BYTES * active {
-        return Written {
-            refusal: paper::NO_ROOM,
-            bytes: 0,
-        };
+        return Written::refused(Refusal::NoRoom);
     }
     let mut at: usize = 0;
-    let mut id: usize = 0;
-    while id < 256 {
-        let written = write_cancel(&mut out[at..], id as u8, states, xs, ys);
+    for id in 0..=255 {
+        let written = write_cancel(&mut out[at..], id, states, xs, ys);
         at += written.bytes;
-        id += 1;
     }
-    Written {
-        refusal: 0,
-        bytes: at,
-    }
+    Written::done(at)
 }
 
 // A hovering contact goes out of range with a record of kind 3, where there is room for it; otherwise nothing happens.
@@ -110,16 +100,10 @@ pub fn dismiss(
 {
     let i = id as usize;
     if states[i] != states::HOVERING {
-        return Written {
-            refusal: 0,
-            bytes: 0,
-        };
+        return Written::done(0);
     }
     if out.len() < RECORD_BYTES {
-        return Written {
-            refusal: paper::NO_ROOM,
-            bytes: 0,
-        };
+        return Written::refused(Refusal::NoRoom);
     }
     let contact = stored_contact(0x02, id, xs, ys);
     store(id, states::OUT, Point { x: 0, y: 0 }, states, xs, ys);

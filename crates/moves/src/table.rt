@@ -5,7 +5,6 @@ ghost use Rattle.contacts.specs.Ruling.{source, table_from};
 ghost use Rattle.moves.specs.Moves.{Moves, Applies};
 
 use house::{Contact, Point};
-use touch::ReadContact;
 
 // A contact's state and position, put for those that it had.
 pub fn store(
@@ -45,30 +44,26 @@ pub fn move_contact(
     store(contact.id, state, place, states, xs, ys);
 }
 
-// The n contacts of a frame, from the first one's first byte, each stored with its next state. Answers where they end, 0 where they
-// cannot all be read.
-pub fn apply(
-    rest: &[u8],
+// The n contacts at the front of rest, each stored with its next state. Answers what is behind them, and all of rest where they cannot all be read.
+pub fn apply<'a>(
+    rest: &'a [u8],
     n: usize,
     recorded: bool,
     states: &mut [u8; 256],
     xs: &mut [i32; 256],
     ys: &mut [i32; 256],
-) -> usize
-    ensures { Applies (source recorded) n rest.now result (table_from states.old xs.old ys.old) (table_from states.new xs.new ys.new) }
+) -> &'a [u8]
+    ensures { Applies (source recorded) n rest.now result.now (table_from states.old xs.old ys.old) (table_from states.new xs.new ys.new) }
 {
-    let mut at: usize = 0;
-    let mut left = n;
-    while 0 < left {
-        let got = contacts::read_contact(&rest[at..], recorded);
-        let ReadContact::Value(contact, k) = got else {
-            return 0;
+    let mut left = rest;
+    for _ in 0..n {
+        let Ok((contact, behind)) = contacts::read_contact(left, recorded) else {
+            return rest;
         };
         move_contact(contact, states, xs, ys);
-        at += k;
-        left -= 1;
+        left = behind;
     }
-    at
+    left
 }
 
 // Every contact goes out of range.

@@ -18,7 +18,7 @@ use Rattle.contacts.proofs.Reading.{read-end}
 module _ (held : List ℕ) (n : ℕ) (l : List ℕ) where
   pub read_none : n ≡ 0 → of_read false (opening touch_view held) (contacts_of n l) ≡ false
   unfolding opening
-  read_none h = read-end (contact taken) false (opening touch_view held) n l (omega arith)
+  read_none h = read-end (contact taken) false (λ cs t. opening touch_view held cs) n l (omega arith)
 
 -- at least one contact: by the one rule, or by the other
 abbrev ByEither : List ℕ → Got (List Contact) → Type 0

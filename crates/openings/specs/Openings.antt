@@ -8,7 +8,7 @@ use Rattle.machine.specs.Held.{is_down, is_free, with_listing, opening}
 use Rattle.contacts.specs.Touch.{touch_view}
 use Rattle.contacts.specs.Ruling.{of_read}
 use Rattle.framing.specs.After.{after_read}
-use Rattle.moves.specs.Moves.{Ends}
+use Rattle.moves.specs.Moves.{behind}
 
 -- one contact, by the first or by the second of the two rules that make a frame opening
 abbrev pub passes_by : Bool → List ℕ → Contact → Bool
@@ -18,7 +18,7 @@ passes_by hovers held c = cond hovers (is_free touch_view held c) (is_down touch
 abbrev pub judged_among : Bool → List ℕ → Got (List Contact) → Bool
 judged_among running held x = cond running true (of_read false (opening touch_view held) x)
 
--- the n contacts at the front of l, of a frame that is ignored or cancelled: what they leave of the set, and where they end
-pub record Lists (n : ℕ) (l : List ℕ) (end : ℕ) (before after : List ℕ) : Type 0 where
+-- the n contacts at the front of l, of a frame that is ignored or cancelled: what they leave of the set, and what is behind them
+pub record Lists (n : ℕ) (l left : List ℕ) (before after : List ℕ) : Type 0 where
   pub held : after ≡ after_read (with_listing touch_view) (contact taken) n before l
-  pub passed : Ends (contact taken) n l end
+  pub passed : left ≡ behind (contact taken) n l

@@ -5,8 +5,6 @@ ghost use Rattle.machine.specs.Held.{active_ids, leaving};
 ghost use Rattle.contacts.specs.Ruling.{table_from};
 ghost use Rattle.openings.specs.Openings.{Lists};
 
-use touch::ReadContact;
-
 // The mark of a contact in this state.
 fn mark_of(state: u8) -> u8
     ensures { result ≡ one (active state) }
@@ -21,12 +19,8 @@ fn mark_of(state: u8) -> u8
 pub fn mark_active(states: &[u8; 256], held: &mut [u8; 256])
     ensures { held.new ≡ active_ids (table_from states.now [] []) }
 {
-    contacts::is_whole(*states);
-    contacts::is_whole(*held);
-    let mut i: usize = 0;
-    while i < 256 {
-        held[i] = mark_of(states[i]);
-        i += 1;
+    for (i, mark) in held.iter_mut().enumerate() {
+        *mark = mark_of(states[i]);
     }
 }
 
@@ -35,30 +29,24 @@ fn mark_for(flags: u8) -> u8
     ensures { result ≡ one (not (leaving flags)) }
 {
     match flags {
-        0x02 => 0,
-        0x22 => 0,
-        0x04 => 0,
-        0x24 => 0,
+        0x02 | 0x22 | 0x04 | 0x24 => 0,
         _ => 1,
     }
 }
 
-// The n contacts of a frame that is ignored or cancelled, from the first one's first byte: each id joins the set, or leaves it by its
-// flags. Answers where they end, 0 where they cannot all be read.
-pub fn list_contacts(rest: &[u8], n: usize, held: &mut [u8; 256]) -> usize
-    ensures { Lists n rest.now result held.old held.new }
+// The n contacts at the front of rest, of a frame that is ignored or cancelled: each id joins the set, or leaves it by its flags. Answers what is
+// behind them, and all of rest where they cannot all be read.
+pub fn list_contacts<'a>(rest: &'a [u8], n: usize, held: &mut [u8; 256]) -> &'a [u8]
+    ensures { Lists n rest.now result.now held.old held.new }
 {
-    let mut at: usize = 0;
-    let mut left = n;
-    while 0 < left {
-        let got = touch::read_contact(&rest[at..], false);
-        let ReadContact::Value(contact, k) = got else {
-            return 0;
+    let mut left = rest;
+    for _ in 0..n {
+        let Ok((contact, behind)) = touch::read_contact(left, false) else {
+            return rest;
         };
         let own = contact.id as usize;
         held[own] = mark_for(contact.flags);
-        at += k;
-        left -= 1;
+        left = behind;
     }
-    at
+    left
 }

@@ -7,17 +7,12 @@ ghost use Rattle.contacts.specs.Ruling.{contacts_of, of_read};
 ghost use Rattle.openings.specs.Openings.{passes_by, judged_among};
 
 use house::Contact;
-use touch::ReadContact;
 
 // 0x19 and 0x0A.
 fn begins(flags: u8) -> bool
     ensures { result ≡ cond (eqb flags 0x19) true (eqb flags 0x0A) }
 {
-    match flags {
-        0x19 => true,
-        0x0A => true,
-        _ => false,
-    }
+    matches!(flags, 0x19 | 0x0A)
 }
 
 // Whether a contact has 0x19 or 0x0A, and an id that is not in the set.
@@ -25,10 +20,7 @@ fn is_free(contact: Contact, held: &[u8; 256]) -> bool
     ensures { result ≡ is_free touch_view held.now contact }
 {
     let own = contact.id as usize;
-    if begins(contact.flags) {
-        return held[own] == 0;
-    }
-    false
+    begins(contact.flags) && held[own] == 0
 }
 
 // Whether a contact has 0x19; or, where contacts may hover, whether it is free.
@@ -45,19 +37,15 @@ fn passes(contact: Contact, hovers: bool, held: &[u8; 256]) -> bool
 fn all_pass(rest: &[u8], n: u16, hovers: bool, held: &[u8; 256]) -> bool
     ensures { result ≡ of_read false (every (passes_by hovers held.now)) (contacts_of n rest.now) }
 {
-    let mut at: usize = 0;
-    let mut left = n;
-    while 0 < left {
-        let got = touch::read_contact(&rest[at..], false);
-        let ReadContact::Value(contact, k) = got else {
+    let mut left = rest;
+    for _ in 0..n {
+        let Ok((contact, behind)) = touch::read_contact(left, false) else {
             return false;
         };
-        if passes(contact, hovers, held) {
-            at += k;
-            left -= 1;
-        } else {
+        if !passes(contact, hovers, held) {
             return false;
         }
+        left = behind;
     }
     true
 }

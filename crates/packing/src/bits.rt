@@ -15,11 +15,9 @@ fn put_behind(out: &mut [u8], taken: usize, width: usize, value: u64)
     let bytes = (bits + 7) / 8;
     let begun = (out[0] as u64) >> (8 - taken);
     let n = ((begun << width) + low_bits(value, width)) << (8 * bytes - bits);
-    let mut i: usize = 0;
-    while i < bytes {
+    for i in 0..bytes {
         let below = bytes - 1 - i;
         out[i] = ((n >> (8 * below)) % 256) as u8;
-        i = i + 1;
     }
 }
 

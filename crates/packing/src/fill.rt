@@ -15,11 +15,10 @@ pub(crate) fn fill_head(out: &mut [u8], head: Head)
     requires { record_bytes ≤ length out.old }
     ensures { out.new ≡ laid out.old (head_bytes head) }
 {
-    let offset = head.offset;
     put(out, 0, 2, 0);
     let count = head.count as u64;
     put(out, 2, 6, count);
-    put(out, 8, 61, offset.0);
+    put(out, 8, 61, head.offset.0);
     put(out, 69, 3, count / 64);
     // 96 zeros are more than a word, so they go in two parts
     put(out, 72, 56, 0);
@@ -77,10 +76,8 @@ pub(crate) fn fill_contact(out: &mut [u8], kind: u8, contact: Contact)
     requires { record_bytes ≤ length out.old }
     ensures { out.new ≡ laid out.old (contact_bytes kind contact) }
 {
-    let point = contact.place;
-    let sides = contact.sides;
     put_lead(out, kind, contact);
-    put_point(out, point);
-    put_sides(out, sides);
+    put_point(out, contact.place);
+    put_sides(out, contact.sides);
     put_last(out, contact);
 }

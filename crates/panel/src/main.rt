@@ -21,8 +21,7 @@ fn add_answer(page: &mut [u8], place: usize, obeyed: Obeyed, output: &[u8]) -> u
     ensures { Added (said_of obeyed output.now) place result page.old page.new }
 {
     if obeyed.known {
-        let written = obeyed.written;
-        return lines::add_written(page, place, written, output);
+        return lines::add_written(page, place, obeyed.written, output);
     }
     lines::add_text(page, place, b" bad")
 }
@@ -44,7 +43,7 @@ fn run(space: &mut [u8], page: &mut [u8], output: &mut [u8])
 {
     let mut panel = panels::fresh();
     let mut stand = turns::begin();
-    while stand.number < 0xFFFF_FFFF_FFFF_FFFF {
+    for _ in 1..u64::MAX {
         let turn = turns::next_turn(space, page, stand, LINE_MOST);
         let Turn::Entry(from, to, line) = turn else {
             return;

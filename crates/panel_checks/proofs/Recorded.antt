@@ -4,7 +4,8 @@ use Prim.Native.Nat.{ℕ, ◌≤◌, ◌<◌}
 use mathlib.Core.Path.{◌≡◌, refl, sym, ap, ◌∙◌}
 use mathlib.Core.Bool.{false}
 use mathlib.Core.List.{List, [], ◌∷◌}
-use lib.ListN.{length, take, drop, drop_of_length-le}
+use native.Mathlib.Omega.{arith}
+use lib.ListN.{length, take, drop}
 use Rattle.formats.specs.Format.{Got, got, bad, and_then, read_series}
 use Rattle.formats.proofs.Laws.{never}
 use Rattle.house.specs.Layout.{head_in, record_of, head}
@@ -74,8 +75,7 @@ first l fs end h e = go (frame_records.read l) refl
     go (bad x) w = never x fs end (sym (frames-bad l x h w) ∙ e)
     go (got f t) w = on f t w (frames_in t) refl (sym (frames-more l f t h w) ∙ e)
 
-pub none_left : (l : List ℕ) (at : ℕ) (fs : List (Frame Contact)) (end : List ℕ) → length l ≤ at → frames_in (drop at l) ≡ got fs end → fs ≡ []
+pub none_left : (l : List ℕ) (fs : List (Frame Contact)) (end : List ℕ) → length l ≤ 0 → frames_in l ≡ got fs end → fs ≡ []
 unfolding frames_in read_all
-none_left l at fs end h e =
-    let w : got [] [] ≡ got fs end = rw (drop_of_length-le l h) at e in
-    cc
+none_left [] fs end h e = cc
+none_left (x ∷ l) fs end h e = absurd (omega (arith, h))

@@ -3,29 +3,26 @@
 
 ghost use Rattle.std.specs.Prelude.{◌≡◌};
 ghost use Rattle.house.specs.Layout.{record_of};
-ghost use Rattle.recordings.specs.Answer.{counted, counted_got};
+ghost use Rattle.formats.specs.Answer.{whole_of};
+ghost use Rattle.recordings.specs.Answer.{counted};
 ghost use Rattle.writing.specs.TouchDraft.{checked_frames};
 ghost use Rattle.panel_checks.specs.Checks.{permitted, offset_in, first_stands};
 
 use house::Record;
-use paper::Milliseconds;
-use recordings::Counted;
+use paper::{Milliseconds, Refusal};
 
 // How many frames records are, where a touch message of them may be written now: 10, 14, 15, 16.
-pub fn check(ready: u8, suspended: u8, time: Milliseconds, records: &[u8]) -> Counted
-    ensures { counted_got result ≡ counted (permitted ready suspended (checked_frames time records.now)) }
+pub fn check(ready: u8, suspended: u8, time: Milliseconds, records: &[u8]) -> Result<usize, Refusal>
+    ensures { whole_of result ≡ counted (permitted ready suspended (checked_frames time records.now)) }
 {
-    let checked = writing::check_records(time, records);
-    let Counted::Frames(frames) = checked else {
-        return checked;
-    };
+    let frames = writing::check_records(time, records)?;
     if ready == 0 {
-        return Counted::Refused(paper::NOT_READY);
+        return Err(Refusal::NotReady);
     }
     if suspended != 0 {
-        return Counted::Refused(paper::SUSPENDED);
+        return Err(Refusal::Suspended);
     }
-    Counted::Frames(frames)
+    Ok(frames)
 }
 
 // The first frame's offset, 0 where there is no frame.
@@ -33,12 +30,8 @@ fn first_offset(records: &[u8]) -> u64
     ensures { result ≡ offset_in (record_of records.now) }
 {
     match unpacking::read_record(records) {
-        Record::Head(head) => {
-            let offset = head.offset;
-            offset.0
-        }
-        Record::Contact(_, _) => 0,
-        Record::Refused(_) => 0,
+        Record::Head(head) => head.offset.0,
+        _ => 0,
     }
 }
 

@@ -4,9 +4,8 @@ use Prim.Native.Nat.{ℕ}
 use mathlib.Core.Path.{◌≡◌, refl, sym, ap, ◌∙◌}
 use mathlib.Core.Bool.{Bool, true, false, cond, not}
 use mathlib.Core.List.{List, []}
-use native.Mathlib.Omega.{arith}
 use lib.ListN.{length}
-use Rattle.paper.specs.Refusals.{none, not_ready, bad_offset, suspended, illegal}
+use Rattle.paper.specs.Refusals.{not_ready, bad_offset, suspended, illegal}
 use Rattle.paper.specs.declared.Milliseconds.{Milliseconds}
 use Rattle.slices.specs.Writing.{Draft, refuse}
 use Rattle.formats.specs.Format.{Got, got, bad}
@@ -91,22 +90,21 @@ module _ (p : Panel) (time : Milliseconds) (records : List ℕ) where
 
     -- ---- 17 and 11
 
-    module _ (r : ℕ) (h : r ≡ fault_of p w.frames) where
-      pub touch-fault : (r ≡ none → ⊥) → (touch_sending p time records).draft ≡ refuse r
-      touch-fault u = permitted-draft ∙ go (not (all_conform touch_view (panel_rules p) (panel_machine p) w.frames)) (not (offset_stands p w.frames)) h
-        where
-          go : (a b : Bool) → r ≡ cond a illegal (cond b bad_offset none) → cond a (refuse illegal) (cond b (refuse bad_offset) (frames_draft time w.frames)) ≡ refuse r
-          go true b e = ap refuse (sym e)
-          go false true e = ap refuse (sym e)
-          go false false e = absurd (u e)
+    pub touch-fault : (e : ℕ) → bad e ≡ fault_of p w.frames → (touch_sending p time records).draft ≡ refuse e
+    touch-fault e h = permitted-draft ∙ go (not (all_conform touch_view (panel_rules p) (panel_machine p) w.frames)) (not (offset_stands p w.frames)) h
+      where
+        go : (a b : Bool) → bad e ≡ cond a (bad illegal) (cond b (bad bad_offset) (got (tt {0}) [])) → cond a (refuse illegal) (cond b (refuse bad_offset) (frames_draft time w.frames)) ≡ refuse e
+        go true b k = let z : illegal ≡ e = cc in ap refuse z
+        go false true k = let z : bad_offset ≡ e = cc in ap refuse z
+        go false false k = never e (tt {0}) [] k
 
-      pub touch-due : r ≡ none → (touch_sending p time records).draft ≡ touch_draft time records
-      touch-due z = permitted-draft ∙ go (not (all_conform touch_view (panel_rules p) (panel_machine p) w.frames)) (not (offset_stands p w.frames)) h ∙ sym writer's-draft
-        where
-          go : (a b : Bool) → r ≡ cond a illegal (cond b bad_offset none) → cond a (refuse illegal) (cond b (refuse bad_offset) (frames_draft time w.frames)) ≡ frames_draft time w.frames
-          go true b e = absurd (omega (arith, e, z))
-          go false true e = absurd (omega (arith, e, z))
-          go false false e = refl
+    pub touch-due : got (tt {0}) [] ≡ fault_of p w.frames → (touch_sending p time records).draft ≡ touch_draft time records
+    touch-due h = permitted-draft ∙ go (not (all_conform touch_view (panel_rules p) (panel_machine p) w.frames)) (not (offset_stands p w.frames)) h ∙ sym writer's-draft
+      where
+        go : (a b : Bool) → got (tt {0}) [] ≡ cond a (bad illegal) (cond b (bad bad_offset) (got (tt {0}) [])) → cond a (refuse illegal) (cond b (refuse bad_offset) (frames_draft time w.frames)) ≡ frames_draft time w.frames
+        go true b k = never illegal (tt {0}) [] (sym k)
+        go false true k = never bad_offset (tt {0}) [] (sym k)
+        go false false k = refl
 
     -- the panel with this first-frame mark and this table
     abbrev parted : ℕ → Table → Panel

@@ -1,8 +1,11 @@
 -- What the inner functions answer of a touch message: of the frames of records, one after the other, and of the checks over all of them.
-use Rattle.std.specs.Prelude.{ℕ, ◌≤◌, ◌≡◌, Bool, true, cond, not, List, length, drop}
-use Rattle.paper.specs.Refusals.{none, bad_offset}
+use Rattle.std.specs.Prelude.{ℕ, ◌≡◌, Bool, true, false, cond, not, List, [], Option, Some, None, Result}
+use Rattle.std.specs.Borrow.{Bor}
+use Rattle.paper.specs.Refusals.{bad_offset}
+use Rattle.paper.specs.declared.Refusal.{Refusal}
 use Rattle.paper.specs.Refusals as refusals
-use Rattle.formats.specs.Format.{got}
+use Rattle.formats.specs.Format.{Got, got, bad}
+use Rattle.formats.specs.Answer.{whole_of}
 use Rattle.house.specs.declared.Contact.{Contact}
 use Rattle.framing.specs.Frame.{Frame}
 use Rattle.recordings.specs.Records.{frame_records, frames_in}
@@ -14,7 +17,6 @@ use Rattle.contacts.specs.Touch.{touch_view}
 use Rattle.contacts.specs.Ruling.{Counted}
 use Rattle.panels.specs.Panel.{panel_machine, panel_rules, offset_stands}
 use Rattle.panels.specs.declared.Panel.{Panel}
-use Rattle.panel_touch.specs.declared.Step.{Step}
 
 -- ---- frames of records
 
@@ -30,16 +32,14 @@ pub record AreFrames (l : List ℕ) : Type 0 where
   pub after : List ℕ
   pub read : frames_in l ≡ got frames after
 
--- whether the frame f at the front of l conforms; and where it does, the table that it leaves, how many are active then, and where the rest begins
-pub record StepsOver (rules : Rules Contact) (f : Frame Contact) (rest l : List ℕ) (r : Step) (t u : Table) : Type 0 where
-  pub judged : r.conforms ≡ conforms touch_view rules t f.contacts
-  pub table : r.conforms ≡ true → u ≡ table_after touch_view rules.next t f.contacts
-  pub counted : r.conforms ≡ true → Counted r.active u.states
-  pub ends : r.conforms ≡ true → drop r.end l ≡ rest
-  pub inside : r.end ≤ length l
+-- of the frame f at the front of l, with rest behind it: where it conforms, how many contacts are active then, and the table that it leaves
+abbrev pub StepsOver : Rules Contact → Frame Contact → List ℕ → Option (ℕ × Bor (List ℕ)) → Table → Table → Type 0
+StepsOver rules f rest (Some (active, left)) t u =
+    (conforms touch_view rules t f.contacts ≡ true) × (u ≡ table_after touch_view rules.next t f.contacts) × Counted active u.states × (left.now ≡ rest)
+StepsOver rules f rest None t u = conforms touch_view rules t f.contacts ≡ false
 
-abbrev pub Steps : Rules Contact → ℕ → List ℕ → Step → Table → Table → Type 0
-Steps rules active l r t u = (f : Frame Contact) (rest : List ℕ) → frame_records.read l ≡ got f rest → Counted active t.states → StepsOver rules f rest l r t u
+abbrev pub Steps : Rules Contact → ℕ → List ℕ → Option (ℕ × Bor (List ℕ)) → Table → Table → Type 0
+Steps rules active l r t u = (f : Frame Contact) (rest : List ℕ) → frame_records.read l ≡ got f rest → Counted active t.states → StepsOver rules f rest r t u
 
 -- whether the frames of records all conform, and the table that they leave where they do
 pub record RunsThrough (rules : Rules Contact) (l : List ℕ) (r : Bool) (t u : Table) : Type 0 where
@@ -48,13 +48,13 @@ pub record RunsThrough (rules : Rules Contact) (l : List ℕ) (r : Bool) (t u : 
 
 -- ---- a touch message
 
--- 17, then 11; 0 where neither is given
-abbrev pub fault_of : Panel → List (Frame Contact) → ℕ
+-- 17, then 11
+abbrev pub fault_of : Panel → List (Frame Contact) → Got (Unit {0})
 fault_of p fs =
-    cond (not (all_conform touch_view (panel_rules p) (panel_machine p) fs)) refusals.illegal
-    (cond (not (offset_stands p fs)) bad_offset none)
+    cond (not (all_conform touch_view (panel_rules p) (panel_machine p) fs)) (bad refusals.illegal)
+    (cond (not (offset_stands p fs)) (bad bad_offset) (got tt []))
 
 -- .. of the frames of records, and the table that they leave
-pub record Faults (p : Panel) (l : List ℕ) (r : ℕ) (u : Table) : Type 0 where
-  pub fault : (fs : List (Frame Contact)) (rest : List ℕ) → frames_in l ≡ got fs rest → r ≡ fault_of p fs
-  pub table : (fs : List (Frame Contact)) (rest : List ℕ) → frames_in l ≡ got fs rest → r ≡ none → running_with u ≡ run_machine touch_view (panel_rules p) (panel_machine p) fs
+pub record Faults (p : Panel) (l : List ℕ) (r : Result (Unit {0}) Refusal) (u : Table) : Type 0 where
+  pub fault : (fs : List (Frame Contact)) (rest : List ℕ) → frames_in l ≡ got fs rest → whole_of r ≡ fault_of p fs
+  pub table : (fs : List (Frame Contact)) (rest : List ℕ) → frames_in l ≡ got fs rest → whole_of r ≡ got tt [] → running_with u ≡ run_machine touch_view (panel_rules p) (panel_machine p) fs

@@ -1,13 +1,14 @@
 -- Document 02, #101: the panel's sending side. "It keeps the suspended mark and writes client ready, touch and dismiss." What becomes of a panel,
 -- what it answers and what it writes, of any call.
-use Rattle.std.specs.Prelude.{ℕ, ◌≡◌, Bool, true, false, cond, not, List, [], ◌∷◌, eqb, length}
+use Rattle.std.specs.Prelude.{ℕ, ◌≡◌, Bool, true, false, cond, not, List, [], ◌∷◌, eqb, length, Result}
 use Rattle.paper.specs.Refusals.{bad_offset, trailing, not_ready}
 use Rattle.paper.specs.Refusals as refusals
 use Rattle.paper.specs.declared.Milliseconds.{Milliseconds}
+use Rattle.paper.specs.declared.Refusal.{Refusal}
 use Rattle.slices.specs.Writing.{Draft, bytes, refuse, given, Writes}
 use Rattle.slices.specs.declared.Written.{Written}
 use Rattle.formats.specs.Format.{Got, got, bad, and_then, whole}
-use Rattle.formats.specs.Answer.{refusal_of}
+use Rattle.formats.specs.Answer.{refusal_of, whole_of}
 use Rattle.states.specs.Table.{hovering}
 use Rattle.messages.specs.Header.{headed, server_ready, suspend, resume}
 use Rattle.messages.specs.Bodies.{version, nothing, client_ready_draft, dismiss_draft}
@@ -87,6 +88,10 @@ arrival p l = and_then (headed (awaited p) l) (body_arrival p)
 abbrev pub panel_of : Panel → Got Panel → Panel
 panel_of p (got q t) = q
 panel_of p (bad e) = p
+
+-- what code that judges a message answers, of a panel with the contacts t: the marks that it leaves, or the refusal
+abbrev pub heard_of : Table → Result PanelMarks Refusal → Got Panel
+heard_of t r = and_then (whole_of r) (λ m l. got (panel_of_parts m t) l)
 
 -- THE CONTRACT of what arrives
 pub record Takes (p : Panel) (message : List ℕ) (panel : Panel) (refusal : ℕ) : Type 0 where

@@ -59,6 +59,7 @@ pub struct Said {
 }
 
 // A panel that has taken and written nothing.
+#[tactic(auto, unfolding(crate::specs::Panel::fresh_panel, machine::specs::Table::resting))]
 pub fn fresh() -> Panel
     ensures { result ≡ fresh_panel }
 {

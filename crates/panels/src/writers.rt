@@ -9,6 +9,7 @@ ghost use Rattle.panels.specs.Panel.{panel_of_parts, ready_sending, dismiss_send
 use crate::{PanelMarks, Said};
 use house::Point;
 use messages::Ready;
+use paper::Refusal;
 use slices::Written;
 
 // A refusal, which leaves the marks as they were.
@@ -16,11 +17,8 @@ pub fn refuse(marks: PanelMarks, refusal: u8) -> Said
     ensures { result ≡ record { marks = marks; written = record { refusal = refusal; bytes = 0 } } }
 {
     Said {
-        marks: marks,
-        written: Written {
-            refusal: refusal,
-            bytes: 0,
-        },
+        marks,
+        written: Written { refusal, bytes: 0 },
     }
 }
 
@@ -45,12 +43,12 @@ pub fn write_ready_parts(
     ensures { (t : Table) → SendsParts (panel_of_parts marks t) (ready_sending (panel_of_parts marks t) (record { flags = flags; version = version; most = most })) result t out.old out.new }
 {
     if !may_declare(marks.greeted, marks.ready) {
-        return refuse(marks, paper::NOT_READY);
+        return refuse(marks, Refusal::NotReady.number());
     }
     let settings = Ready {
-        flags: flags,
-        version: version,
-        most: most,
+        flags,
+        version,
+        most,
     };
     let written = message_writers::write_client_ready(out, settings);
     if written.refusal != 0 {
@@ -58,13 +56,11 @@ pub fn write_ready_parts(
     }
     Said {
         marks: PanelMarks {
-            greeted: marks.greeted,
             ready: 1,
-            suspended: marks.suspended,
-            begun: marks.begun,
-            settings: settings,
+            settings,
+            ..marks
         },
-        written: written,
+        written,
     }
 }
 
@@ -80,18 +76,15 @@ pub fn write_dismiss_parts(
     ensures { SendsParts (panel_of_parts marks (table_from states.old xs.old ys.old)) (dismiss_sending (panel_of_parts marks (table_from states.old xs.old ys.old)) id) result (table_from states.new xs.new ys.new) out.old out.new }
 {
     if marks.ready == 0 {
-        return refuse(marks, paper::NOT_READY);
+        return refuse(marks, Refusal::NotReady.number());
     }
     if states[id as usize] != states::HOVERING {
-        return refuse(marks, paper::ILLEGAL);
+        return refuse(marks, Refusal::Illegal.number());
     }
     let written = message_writers::write_dismiss(out, id);
     if written.refusal != 0 {
         return refuse(marks, written.refusal);
     }
     moves::store(id, states::OUT, Point { x: 0, y: 0 }, states, xs, ys);
-    Said {
-        marks: marks,
-        written: written,
-    }
+    Said { marks, written }
 }

@@ -1,5 +1,7 @@
 -- Document 01, "Refusal numbers and their order"; from 15 on, document 02.
 use Rattle.std.specs.Prelude.{ℕ}
+use Rattle.paper.specs.declared.Refusal.{Refusal}
+use Rattle.paper.specs.declared.Refusal.TheVariants.{Short, TooLong, Unexpected, BadLength, Truncated, NotShortest, BadCount, BadField, BadFlags, BadRange, BadOffset, Trailing, NoRoom, BadRecord, NotReady, Suspended, Illegal, BadBatch}
 
 -- no refusal
 abbrev pub none : ℕ
@@ -76,3 +78,24 @@ illegal = 17
 -- a batch whose last entry is incomplete, or with fewer places for answers than entries
 abbrev pub bad_batch : ℕ
 bad_batch = 18
+
+-- the number of a refusal
+abbrev pub number : Refusal → ℕ
+number Short = short
+number TooLong = too_long
+number Unexpected = unexpected
+number BadLength = bad_length
+number Truncated = truncated
+number NotShortest = not_shortest
+number BadCount = bad_count
+number BadField = bad_field
+number BadFlags = bad_flags
+number BadRange = bad_range
+number BadOffset = bad_offset
+number Trailing = trailing
+number NoRoom = no_room
+number BadRecord = bad_record
+number NotReady = not_ready
+number Suspended = suspended
+number Illegal = illegal
+number BadBatch = bad_batch

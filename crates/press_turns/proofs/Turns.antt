@@ -1,30 +1,36 @@
 -- What a turn over a record comes to.
 -- Assumes nothing.
-use Rattle.std.proofs.Common.{◌≡◌, ℕ, ◌<◌, ◌≤◌, Bool, true, false, cond, List, [], ◌∷◌, length, get_or, drop, set, sym, refl, ap, ◌∙◌, arith, drop_of_length-le}
-use Rattle.paper.specs.Refusals.{bad_record}
+use Rattle.std.proofs.Common.{◌≡◌, ℕ, Bool, true, false, cond, List, [], ◌∷◌, length, get_or, drop, set, sym, refl, ap, ◌∙◌, Some, None}
 use Rattle.states.specs.Table.{out, next}
+use Rattle.std.specs.Bool.{then_some}
 use Rattle.house.specs.Layout.{record_of}
-use Rattle.house.specs.declared.Head.{Head}
+use Rattle.house.specs.declared.Point.{Point}
 use Rattle.house.specs.declared.Contact.{Contact}
 use Rattle.house.specs.declared.Record.{Record}
 use Rattle.presses.specs.declared.Hit.{Hit}
 use Rattle.presses.specs.declared.Tally.{Tally}
-use Rattle.presses.specs.Choosing.{Choice, is_choice, pressed_after, states_after, pressed_in, record_chosen, point_of}
-use Rattle.presses.specs.Turns.{looks_in, look_at, Went, went_to, count_on, tallied, put_choices, TakesContact, turned_by, went_on, next_at}
-
--- ---- a place past the end has no record
-
-pub record-past : (l : List ℕ) (at : ℕ) → length l < at → record_of (drop at l) ≡ Record.Refused bad_record
-unfolding record_of
-record-past l at h =
-    let m : length l ≤ at = omega (arith, h) in
-    rw (drop_of_length-le l m) refl
+use Rattle.presses.specs.Choosing.{Choice, looks, is_choice, pressed_after, states_after, pressed_in, record_chosen}
+use Rattle.presses.specs.Turns.{looked_at, look_at, Went, went_to, count_on, tallied, put_choices, TakesContact, turned_by, went_on, next_at}
 
 -- ---- what a record looks at
 
-pub look-of : (l : List ℕ) (at : ℕ) (r : Record) → record_of (drop at l) ≡ r → look_at l at ≡ record { due = looks_in r; point = point_of r }
+-- that a record is no contact
+abbrev pub NoContact : Record → Type 0
+NoContact r = (kind : ℕ) → (c : Contact) → r ≡ Record.Contact kind c → ⊥
+
+pub look-none : (l : List ℕ) (at : ℕ) (r : Record) → r ≡ record_of (drop at l) → NoContact r → None ≡ look_at l at
 unfolding look_at
-look-of l at r e = rw e refl
+look-none l at (Record.Head x) e n = ap looked_at e
+look-none l at (Record.Contact kind c) e n = absurd (n kind c refl)
+look-none l at (Record.Refused x) e n = ap looked_at e
+
+pub look-contact : (l : List ℕ) (at : ℕ) (looks_here : Bool) (kind : ℕ) (c : Contact) → looks_here ≡ looks c.flags → Record.Contact kind c ≡ record_of (drop at l) → then_some looks_here c.place ≡ look_at l at
+unfolding look_at
+look-contact l at looks_here kind c f e = some_if looks_here c.place ∙ ap (λ (b : Bool). cond b (Some c.place) None) f ∙ ap looked_at e
+  where
+    some_if : (b : Bool) (p : Point) → then_some b p ≡ cond b (Some p) None
+    some_if true p = refl
+    some_if false p = refl
 
 -- ---- a choice or none
 
@@ -49,13 +55,11 @@ went-contact h l writing w kind c e = went-by h l writing w (Record.Contact kind
 abbrev pub passed_by : Went → ℕ → Went
 passed_by w n = record { run = record { label = w.run.label; at = n; count = w.run.count }; out = w.out }
 
-pub went-head : (h : Hit) (l : List ℕ) (writing : Bool) (w : Went) (x : Head) → record_of (drop w.run.at l) ≡ Record.Head x → went_on h l writing w ≡ passed_by w (next_at (length l) w.run.at)
+pub went-none : (h : Hit) (l : List ℕ) (writing : Bool) (w : Went) (r : Record) → r ≡ record_of (drop w.run.at l) → NoContact r → passed_by w (next_at (length l) w.run.at) ≡ went_on h l writing w
 unfolding turned_by record_chosen states_after pressed_in put_choices tallied
-went-head h l writing w x e = went-by h l writing w (Record.Head x) e
-
-pub went-refused : (h : Hit) (l : List ℕ) (writing : Bool) (w : Went) (number : ℕ) → record_of (drop w.run.at l) ≡ Record.Refused number → went_on h l writing w ≡ passed_by w (next_at (length l) w.run.at)
-unfolding turned_by record_chosen states_after pressed_in put_choices tallied
-went-refused h l writing w number e = went-by h l writing w (Record.Refused number) e
+went-none h l writing w (Record.Head x) e n = sym (went-by h l writing w (Record.Head x) (sym e))
+went-none h l writing w (Record.Contact kind c) e n = absurd (n kind c refl)
+went-none h l writing w (Record.Refused x) e n = sym (went-by h l writing w (Record.Refused x) (sym e))
 
 -- what becomes of a contact, part by part
 pub taken_is : (h : Hit) (c : Contact) (writing : Bool) (before : ℕ) (chose : Bool) (after : ℕ) (s s' p p' o o' : List ℕ)

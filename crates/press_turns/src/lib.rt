@@ -1,12 +1,13 @@
 // A run over records, one a turn: between two turns somebody looks up the button that the next one looks at.
 #![tactic(auto)]
 
-ghost use Rattle.std.specs.Prelude.{◌≡◌, [], ◌∷◌, if◌then◌else◌};
+ghost use Rattle.std.specs.Prelude.{◌≡◌, [], ◌∷◌, if◌then◌else◌, drop};
+ghost use Rattle.house.specs.Layout.{record_of};
 ghost use Rattle.presses.specs.Choosing.{is_choice, is_lift, looks, pressed_after};
-ghost use Rattle.presses.specs.Turns.{no_look, look_at, next_at, count_on, put_choices, TakesContact, went_to, went_on};
+ghost use Rattle.presses.specs.Turns.{look_at, next_at, count_on, put_choices, TakesContact, went_to, went_on};
 
 use house::{Contact, Point, Record};
-use presses::{Hit, Look, Tally};
+use presses::{Hit, Tally};
 
 // Goes engaged.
 const PRESS: u8 = 0x19;
@@ -18,89 +19,58 @@ const MOVE: u8 = 0x1A;
 fn is_lift(flags: u8) -> bool
     ensures { result ≡ is_lift flags }
 {
-    if flags == 0x04 {
-        return true;
-    }
-    flags == 0x0C
+    flags == 0x04 || flags == 0x0C
 }
 
 fn does_look(flags: u8) -> bool
     ensures { result ≡ looks flags }
 {
-    if flags == PRESS {
-        return true;
-    }
-    is_lift(flags)
+    flags == PRESS || is_lift(flags)
 }
 
-// What looks at nothing.
-fn no_look() -> Look
-    ensures { result ≡ no_look }
+// The record at a place: past the end it is none, and refused.
+fn record_at(records: &[u8], at: usize) -> Record
+    ensures { result ≡ record_of (drop at records.now) }
 {
-    Look {
-        due: false,
-        point: Point { x: 0, y: 0 },
-    }
+    unpacking::read_record(&records[at.min(records.len())..])
 }
 
-// Whether the record at a place looks at buttons, and at which point.
-pub fn look_at(records: &[u8], at: usize) -> Look
+// The point at which the record at a place looks at buttons, if it does.
+pub fn look_at(records: &[u8], at: usize) -> Option<Point>
     ensures { result ≡ look_at records.now at }
 {
-    if records.len() < at {
-        return no_look();
-    }
-    match unpacking::read_record(&records[at..]) {
-        Record::Head(_) => no_look(),
-        Record::Contact(_, contact) => {
-            let place = contact.place;
-            Look {
-                due: does_look(contact.flags),
-                point: place,
-            }
-        }
-        Record::Refused(_) => no_look(),
-    }
+    let Record::Contact(_, contact) = record_at(records, at) else {
+        return None;
+    };
+    does_look(contact.flags).then_some(contact.place)
 }
 
 // A lift in the button that was pressed.
 fn is_choice(flags: u8, hit: Hit, pressed: usize) -> bool
     ensures { result ≡ is_choice flags hit pressed }
 {
-    if is_lift(flags) {
-        if pressed == 0 {
-            return false;
-        }
-        return hit.number == pressed;
-    }
-    false
+    is_lift(flags) && pressed != 0 && hit.number == pressed
 }
 
 // The button that a contact has pressed after its flags.
 fn pressed_after(flags: u8, hit: Hit, pressed: usize) -> usize
     ensures { result ≡ pressed_after flags hit pressed }
 {
-    if flags == PRESS {
-        return hit.number;
+    match flags {
+        PRESS => hit.number,
+        MOVE => pressed,
+        _ => 0,
     }
-    if flags == MOVE {
-        return pressed;
-    }
-    0
 }
 
 // Puts a choice, if there was one, behind n others, where there is room.
 fn put_choice(choices: &mut [u32], writing: bool, n: usize, chose: bool, id: u8, item: u32)
     ensures { choices.new ≡ put_choices writing n (if chose then (record { id = id; item = item } ∷ []) else []) choices.old }
 {
-    if chose {
-        if writing {
-            if n < choices.len() / 2 {
-                let at = 2 * n;
-                choices[at] = id as u32;
-                choices[at + 1] = item;
-            }
-        }
+    if chose && writing && n < choices.len() / 2 {
+        let at = 2 * n;
+        choices[at] = id as u32;
+        choices[at + 1] = item;
     }
 }
 
@@ -108,23 +78,14 @@ fn put_choice(choices: &mut [u32], writing: bool, n: usize, chose: bool, id: u8,
 fn next_at(n: usize, at: usize) -> usize
     ensures { result ≡ next_at n at }
 {
-    if n < house::RECORD_BYTES {
-        return n;
-    }
-    if at <= n - house::RECORD_BYTES {
-        return at + house::RECORD_BYTES;
-    }
-    n
+    at.saturating_add(house::RECORD_BYTES).min(n)
 }
 
 // The number of choices, one more where there was one.
 fn count_on(count: usize, chose: bool) -> usize
     ensures { result ≡ count_on chose count }
 {
-    if chose {
-        return std::num::wrapping_add_usize(count, 1);
-    }
-    count
+    if chose { count.wrapping_add(1) } else { count }
 }
 
 // A turn over a contact's record.
@@ -159,31 +120,13 @@ pub fn go_on(
 ) -> Tally
     ensures { went_to states.new pressed.new result choices.new ≡ went_on hit records.now writing (went_to states.old pressed.old tally choices.old) }
 {
-    let at = tally.at;
-    let count = tally.count;
-    let n = records.len();
-    let next = next_at(n, at);
-    if n < at {
-        return Tally {
-            at: next,
-            count: count,
-        };
-    }
-    match unpacking::read_record(&records[at..]) {
-        Record::Head(_) => Tally {
-            at: next,
-            count: count,
-        },
-        Record::Contact(_, contact) => {
-            let counted = take_contact(states, pressed, count, hit, contact, choices, writing);
-            Tally {
-                at: next,
-                count: counted,
-            }
-        }
-        Record::Refused(_) => Tally {
-            at: next,
-            count: count,
-        },
-    }
+    let next = Tally {
+        at: next_at(records.len(), tally.at),
+        ..tally
+    };
+    let Record::Contact(_, contact) = record_at(records, tally.at) else {
+        return next;
+    };
+    let count = take_contact(states, pressed, tally.count, hit, contact, choices, writing);
+    Tally { count, ..next }
 }

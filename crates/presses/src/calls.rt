@@ -17,19 +17,17 @@ pub fn counting_from(bytes: usize, numbers: usize) -> usize
     ensures { result ≡ counting_from bytes numbers }
 {
     if bytes / house::RECORD_BYTES < numbers / 2 {
-        return bytes;
+        bytes
+    } else {
+        0
     }
-    0
 }
 
 // Where the run that writes begins: at the end, where the records are refused, so that nothing is done.
 pub fn writing_from(refusal: u8, bytes: usize) -> usize
     ensures { result ≡ writing_from refusal bytes }
 {
-    if refusal == 0 {
-        return 0;
-    }
-    bytes
+    if refusal == 0 { 0 } else { bytes }
 }
 
 // The answer. (A run of no records counts none.)
@@ -37,7 +35,7 @@ pub fn conclude(refusal: u8, run: Tally) -> Picked
     ensures { result ≡ concluded refusal run }
 {
     Picked {
-        refusal: refusal,
+        refusal,
         count: run.count,
     }
 }

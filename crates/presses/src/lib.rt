@@ -5,8 +5,6 @@ ghost use Rattle.std.specs.Prelude.{◌≡◌};
 ghost use Rattle.presses.specs.Buttons.{holds};
 ghost use Rattle.presses.specs.Choosing as spec;
 
-use house::Point;
-
 mod calls;
 
 pub use calls::{begin, conclude, counting_from, writing_from};
@@ -38,13 +36,6 @@ pub struct Hit {
     pub item: u32,
 }
 
-// Whether a record looks at buttons, and the point that it looks at.
-#[derive(Clone, Copy)]
-pub struct Look {
-    pub due: bool,
-    pub point: Point,
-}
-
 // How far a run over records has come: where the next record stands, and how many choices there were.
 #[derive(Clone, Copy)]
 pub struct Tally {
@@ -69,6 +60,7 @@ pub struct Chosen {
 }
 
 // A label with all contacts out.
+#[tactic(auto, unfolding(crate::specs::Choosing::fresh_label))]
 pub fn fresh() -> Label
     ensures { result ≡ spec.fresh_label }
 {
@@ -79,6 +71,7 @@ pub fn fresh() -> Label
 }
 
 // Whether a button is shown and holds a point.
+#[tactic(auto, unfolding(crate::specs::Buttons::holds))]
 pub fn is_in(button: Button, x: i32, y: i32) -> bool
     ensures { result ≡ holds button (record { x = x; y = y }) }
 {

@@ -1,30 +1,30 @@
 -- A message is judged by its header and then its body: what the answers for the two say of the whole.
 -- Assumes nothing.
-use Prim.Native.Nat.{ℕ, ◌+◌, ◌-◌, ◌≤◌}
+use Prim.Native.Nat.{ℕ}
 use mathlib.Core.Path.{◌≡◌, sym, ◌∙◌}
 use mathlib.Core.Bool.{Bool, true, false}
-use mathlib.Core.List.{List, []}
-use native.Mathlib.Omega.{arith}
-use lib.ListN.{length, take, drop, length-drop}
-use lib.Seq.{drop-drop}
-use Rattle.paper.specs.Refusals.{not_shortest}
+use mathlib.Core.List.{List, [], ◌∷◌}
+use Rattle.std.specs.Prelude.{Result, Ok, Err}
+use Rattle.std.specs.Borrow.{Bor}
+use Rattle.paper.specs.Refusals.{number, not_shortest}
+use Rattle.paper.specs.declared.Refusal.{Refusal}
 use Rattle.formats.specs.Format.{Got, got, bad, read_series, series}
 use Rattle.formats.proofs.Laws.{never}
-use Rattle.formats.proofs.Steps.{tail}
 use Rattle.formats.proofs.Agreeing.{Agree, refuses, same, series-agrees}
 use Rattle.fields.specs.Integers.{taken_by, strict, taken}
 use Rattle.house.specs.declared.Contact.{Contact}
+use Rattle.messages.specs.Header.{headed, read_message}
+use Rattle.messages.specs.Header as event
+use Rattle.messages.proofs.Laws.{headed_same}
 use Rattle.framing.specs.Frame.{Frame}
 use Rattle.framing.specs.Format.{summary}
-use Rattle.messages.specs.Header.{header_bytes}
-use Rattle.touch.specs.Touch.{Touch, frame, body}
-use Rattle.touch.specs.Answer.{Checks}
 use Rattle.framing.specs.declared.BodyHead.{BodyHead}
-use Rattle.touch.specs.declared.CheckedBody.TheVariants as CheckedBody
-use Rattle.touch.proofs.Passes.{checked}
+use Rattle.touch.specs.Touch.{Touch, frame, body}
 use Rattle.touch.proofs.Agreeing.{strict-frame-agrees}
+use Rattle.touch_frames.specs.Checks.{Checks}
+use Rattle.touch_frames.proofs.Passes.{checked}
 use Rattle.reading.specs.Plain.{read_by}
-use Rattle.reading.specs.Passes.{frames, Reads}
+use Rattle.reading.specs.Passes.{frames, Judges}
 
 refused-of : (e : ℕ) (x : Got Touch) → bad e ≡ summary x → x ≡ bad e
 refused-of e (bad y) h = cc
@@ -39,22 +39,24 @@ frames-taken true n l fs t e = go ((series-agrees (frame strict) (frame taken) f
     go (same w) = sym w ∙ e
 frames-taken false n l fs t e = e
 
--- a message whose header is accepted: its body is lent as its tail
-module _ (strictly : Bool) (l : List ℕ) (b : read_by strictly l ≡ body (taken_by strictly) false (take (length l - header_bytes) (drop header_bytes l))) where
-  pub body_refused : (e : ℕ) → Checks strictly false (take (length l - header_bytes) (drop header_bytes l)) (CheckedBody.Refused e) → read_by strictly l ≡ bad e
-  body_refused e c = b ∙ refused-of e _ c.same
+module _ (strictly : Bool) (l : List ℕ) where
+  -- a header that is refused
+  pub header-refused : (e : ℕ) → bad e ≡ headed (event.touch ∷ event.touch ∷ []) l → read_by strictly l ≡ bad e
+  unfolding read_message
+  header-refused e h = rw (sym (headed_same event.touch l) ∙ sym h)
 
-  pub body-inside : (h : BodyHead) (at : ℕ) → header_bytes ≤ length l → Checks strictly false (take (length l - header_bytes) (drop header_bytes l)) (CheckedBody.Body h at) → header_bytes + at ≤ length l
-  body-inside h at low c = omega (arith, rw (tail l header_bytes, length-drop header_bytes l) at c.begins.inside)
+  -- a message whose header is accepted is what its body says
+  body-of : (x : ℕ) (b : List ℕ) → got x b ≡ headed (event.touch ∷ event.touch ∷ []) l → read_by strictly l ≡ body (taken_by strictly) false b
+  unfolding read_message
+  body-of x b h = rw (sym (headed_same event.touch l) ∙ sym h)
 
-  pub body-read : (h : BodyHead) (at : ℕ) → header_bytes ≤ length l → Checks strictly false (take (length l - header_bytes) (drop header_bytes l)) (CheckedBody.Body h at) → Reads strictly l h (header_bytes + at)
-  body-read h at low c =
-      let d : Checks strictly false (drop header_bytes l) (CheckedBody.Body h at) = rw (tail l header_bytes) at c in
-      let k = checked strictly false (drop header_bytes l) h at d in
+  pub body-judged : (x : ℕ) (b : List ℕ) (r : Result (BodyHead × Bor (List ℕ)) Refusal) → got x b ≡ headed (event.touch ∷ event.touch ∷ []) l → Checks strictly false b r → Judges strictly l r
+  body-judged x b (Ok (h, t)) w c =
+      let k = checked strictly false b h t c in
       record {
         message = k.message;
-        read = b ∙ rw (tail l header_bytes) k.read;
+        read = body-of x b w ∙ k.read;
         head = k.head;
-        inside = body-inside h at low c;
-        frames = rw (drop-drop at header_bytes l) at (frames-taken strictly h.frames (drop at (drop header_bytes l)) k.message.frames [] k.frames);
+        frames = frames-taken strictly h.frames t.now k.message.frames [] k.frames;
       }
+  body-judged x b (Err e) w c = body-of x b w ∙ refused-of (number e) _ c.same

@@ -1,5 +1,8 @@
 -- What the parts of the plain reading answer: the judging of a message, the pass that counts its records and the pass that writes them.
-use Rattle.std.specs.Prelude.{ℕ, ◌*◌, ◌≤◌, ◌≡◌, Bool, false, List, [], length, drop}
+use Rattle.std.specs.Prelude.{ℕ, ◌*◌, ◌≤◌, ◌≡◌, Bool, false, List, [], length, Result, Ok, Err}
+use Rattle.std.specs.Borrow.{Bor}
+use Rattle.paper.specs.Refusals.{number}
+use Rattle.paper.specs.declared.Refusal.{Refusal}
 use Rattle.slices.specs.Writing.{laid}
 use Rattle.formats.specs.Format.{Format, got, bad, series}
 use Rattle.fields.specs.Integers.{taken}
@@ -8,7 +11,6 @@ use Rattle.framing.specs.Frame.{Frame, frames_bytes}
 use Rattle.framing.specs.Format.{body_head_of}
 use Rattle.touch.specs.Touch.{Touch, frame, touch_record}
 use Rattle.framing.specs.declared.BodyHead.{BodyHead}
-use Rattle.touch.specs.declared.CheckedBody.{CheckedBody}
 use Rattle.frame_records.specs.Frames.{record_count}
 use Rattle.reading.specs.Plain.{read_by}
 
@@ -16,17 +18,16 @@ use Rattle.reading.specs.Plain.{read_by}
 abbrev pub frames : ℕ → Format (List (Frame Contact))
 frames n = series (frame taken) false n
 
--- a message that is read: what stands before its frames, and that these begin at at
-pub record Reads (strictly : Bool) (l : List ℕ) (h : BodyHead) (at : ℕ) : Type 0 where
+-- a message that is read: what stands before its frames, and the bytes of these
+pub record Reads (strictly : Bool) (l : List ℕ) (h : BodyHead) (frames_read : List ℕ) : Type 0 where
   pub message : Touch
   pub read : read_by strictly l ≡ got message []
   pub head : h ≡ body_head_of message
-  pub inside : at ≤ length l
-  pub frames : (frames h.frames).read (drop at l) ≡ got message.frames []
+  pub frames : (frames h.frames).read frames_read ≡ got message.frames []
 
-abbrev pub Judges : Bool → List ℕ → CheckedBody → Type 0
-Judges strictly l (CheckedBody.Body h at) = Reads strictly l h at
-Judges strictly l (CheckedBody.Refused e) = read_by strictly l ≡ bad e
+abbrev pub Judges : Bool → List ℕ → Result (BodyHead × Bor (List ℕ)) Refusal → Type 0
+Judges strictly l (Ok (h, t)) = Reads strictly l h t.now
+Judges strictly l (Err e) = read_by strictly l ≡ bad (number e)
 
 -- r is how many records n frames have, if they can be read
 pub record CountsRecords (n : ℕ) (l : List ℕ) (r : ℕ) : Type 0 where

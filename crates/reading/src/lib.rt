@@ -5,10 +5,10 @@ mod judge;
 mod passes;
 
 ghost use Rattle.std.specs.Prelude.{◌≡◌};
+ghost use Rattle.paper.specs.Refusals.{number};
 ghost use Rattle.reading.specs.Plain.{refusal, ReadsBy, ReadsPlainly, ReadsStrictly};
 
-use paper::Milliseconds;
-use touch::CheckedBody;
+use paper::{Milliseconds, Refusal};
 
 // What the plain reading answers: a refusal's number, 0 for none; encodeTime; and how many records it wrote.
 #[repr(C)]
@@ -20,11 +20,11 @@ pub struct PlainAnswer {
 }
 
 // A refusal answers its number, and 0 beside it.
-fn refused(e: u8) -> PlainAnswer
-    ensures { result ≡ refusal e }
+fn refused(e: Refusal) -> PlainAnswer
+    ensures { result ≡ refusal (number e) }
 {
     PlainAnswer {
-        refusal: e,
+        refusal: e.number(),
         time: Milliseconds(0),
         records: 0,
     }
@@ -34,20 +34,19 @@ fn refused(e: u8) -> PlainAnswer
 pub fn read(message: &[u8], output: &mut [u8], strictly: bool) -> PlainAnswer
     ensures { ReadsBy strictly message.now result output.old output.new }
 {
-    let judged = judge::judge(message, strictly);
-    let CheckedBody::Body(head, at) = judged else {
-        return refused(judged.refusal());
+    let (head, frames) = match judge::judge(message, strictly) {
+        Ok(judged) => judged,
+        Err(e) => return refused(e),
     };
-    let records = passes::count_records(&message[at..], head.frames);
+    let records = passes::count_records(frames, head.frames);
     if output.len() < house::RECORD_BYTES * records {
-        return refused(paper::NO_ROOM);
+        return refused(Refusal::NoRoom);
     }
-    passes::write_frames(output, &message[at..], head.frames);
-    let time = head.time;
+    passes::write_frames(output, frames, head.frames);
     PlainAnswer {
         refusal: 0,
-        time: time,
-        records: records,
+        time: head.time,
+        records,
     }
 }
 

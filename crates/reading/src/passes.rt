@@ -7,14 +7,13 @@ pub(crate) fn count_records(frames: &[u8], n: u8) -> usize
     ensures { CountsRecords n frames.now result }
 {
     let mut records: usize = 0;
-    let mut at: usize = 0;
-    let mut left = n;
-    while 0 < left {
-        let found = frame_records::find_frame(&frames[at..]);
-        let head = found.head;
+    let mut left = frames;
+    for _ in 0..n {
+        let Some((head, _, behind)) = frame_records::find_frame(left) else {
+            return records;
+        };
         records += head.count as usize + 1;
-        at += found.end;
-        left -= 1;
+        left = behind;
     }
     records
 }
@@ -25,15 +24,13 @@ pub(crate) fn write_frames(out: &mut [u8], frames: &[u8], n: u8)
     ensures { WritesFrames n frames.now out.old out.new }
 {
     let mut pos: usize = 0;
-    let mut at: usize = 0;
-    let mut left = n;
-    while 0 < left {
-        let found = frame_records::find_frame(&frames[at..]);
-        let head = found.head;
-        let contacts = at + found.contacts;
-        let written = frame_records::write_frame(&mut out[pos..], head, &frames[contacts..]);
+    let mut left = frames;
+    for _ in 0..n {
+        let Some((head, contacts, behind)) = frame_records::find_frame(left) else {
+            return;
+        };
+        let written = frame_records::write_frame(&mut out[pos..], head, contacts);
         pos += written.bytes;
-        at += found.end;
-        left -= 1;
+        left = behind;
     }
 }

@@ -19,9 +19,8 @@ const LINE_MOST: usize = 20 + 3 * 21 + 8 + 21 + 1;
 fn add_answer(page: &mut [u8], place: usize, answer: PlainAnswer) -> usize
     ensures { Added (read_text answer) place result page.old page.new }
 {
-    let time = answer.time;
     let refused = lines::add_field(page, place, answer.refusal as u64);
-    let timed = lines::add_field(page, refused, time.0 as u64);
+    let timed = lines::add_field(page, refused, answer.time.0 as u64);
     lines::add_field(page, timed, answer.records as u64)
 }
 
@@ -54,10 +53,9 @@ fn add_back(
     if answer.refusal != 0 {
         return place;
     }
-    let time = answer.time;
     let end = house::RECORD_BYTES * answer.records;
     let mut again = [0u8; messages::MESSAGE_MOST];
-    let written = writing::write_touch(&mut again, time, &output[..end]);
+    let written = writing::write_touch(&mut again, answer.time, &output[..end]);
     let same = check::same(message, &again[..written.bytes]);
     add_outcome(page, place, same, written.bytes, strictly)
 }
@@ -79,7 +77,7 @@ fn print_lines(space: &mut [u8], page: &mut [u8], output: &mut [u8], strictly: b
     ensures { Keeps space.old space.new page.old page.new output.old output.new }
 {
     let mut stand = turns::begin();
-    while stand.number < 0xFFFF_FFFF_FFFF_FFFF {
+    for _ in 1..u64::MAX {
         let turn = turns::next_turn(space, page, stand, LINE_MOST);
         let Turn::Entry(from, to, line) = turn else {
             return;

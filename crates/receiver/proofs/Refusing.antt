@@ -13,7 +13,8 @@ use Rattle.formats.specs.Format.{got, bad, whole, byte}
 use Rattle.formats.proofs.Refusing.{Tame, Tamed, and-then, by-test, done-tame, field-tame, such-tame, when-tame, series-tame, whole-tame, byte-tame, little-tame}
 use Rattle.integers.specs.Integer.{Reading, value, refused, reading_by}
 use Rattle.integers.proofs.Laws.{Fault, cut, form, reading-refused}
-use Rattle.fields.specs.Integers.{Shape, got_by, integer, unsigned, signed, taken_by, taken}
+use Rattle.integers.specs.Shape.{Shape, unsigned, signed}
+use Rattle.fields.specs.Integers.{got_by, integer, taken_by, taken}
 use Rattle.house.specs.Fits.{no_sides}
 use Rattle.messages.specs.Header.{headed, read_message, client_ready, touch, header_bytes, most_bytes, event_of, pdu_length, one_of}
 use Rattle.messages.specs.Bodies.{ready_by, ready, ready_flags, version}

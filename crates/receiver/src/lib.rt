@@ -93,12 +93,11 @@ pub fn fresh() -> Receiver
 pub fn marks_of(receiver: Receiver) -> Marks
     ensures { result ≡ marks_of receiver }
 {
-    let settings = receiver.settings;
     Marks {
         ready: receiver.ready,
         begun: receiver.begun,
         ignoring: receiver.ignoring,
-        settings: settings,
+        settings: receiver.settings,
     }
 }
 
@@ -112,16 +111,15 @@ pub fn of_parts(
 ) -> Receiver
     ensures { result ≡ of_parts marks (arrays_from states xs ys held) }
 {
-    let settings = marks.settings;
     Receiver {
         ready: marks.ready,
         begun: marks.begun,
         ignoring: marks.ignoring,
-        settings: settings,
-        states: states,
-        xs: xs,
-        ys: ys,
-        held: held,
+        settings: marks.settings,
+        states,
+        xs,
+        ys,
+        held,
     }
 }
 
@@ -130,17 +128,14 @@ pub fn quiet(marks: Marks, refusal: u8, records: usize) -> Turn
     ensures { result ≡ record { marks = marks; answer = record { refusal = refusal; injected = 0; ignored = 0; cancelled = 0; time = record { 0 = 0 }; records = records } } }
 {
     let answer = Answer {
-        refusal: refusal,
+        refusal,
         injected: 0,
         ignored: 0,
         cancelled: 0,
         time: Milliseconds(0),
-        records: records,
+        records,
     };
-    Turn {
-        marks: marks,
-        answer: answer,
-    }
+    Turn { marks, answer }
 }
 
 // A refusal answers its number with all other fields 0, and the receiver stays as it was.

@@ -7,7 +7,7 @@ ghost use Rattle.channel.specs.Marks.{off};
 ghost use Rattle.receiver.specs.Events.{turned, Gives, ready_effect, dismiss_effect};
 ghost use Rattle.receiving.specs.Dismissal.{held_by};
 
-use messages::{Header, ReadDismiss, ReadReady, Ready};
+use messages::Ready;
 use receiver::{Marks, Turn, quiet, refuse};
 
 // The settings, which a receiver takes once.
@@ -16,9 +16,8 @@ fn settle(marks: Marks, settings: Ready) -> Marks
 {
     Marks {
         ready: 1,
-        begun: marks.begun,
-        ignoring: marks.ignoring,
-        settings: settings,
+        settings,
+        ..marks
     }
 }
 
@@ -27,8 +26,8 @@ fn receive_settings(marks: Marks, body: &[u8]) -> Turn
     ensures { (a : Arrays) (d : List ℕ) → Gives (of_parts marks a) (ready_effect (of_parts marks a) body.now) d (turned result a) d }
 {
     match messages::read_ready_body(body) {
-        ReadReady::Refused(e) => refuse(marks, e),
-        ReadReady::Ready(settings) => quiet(settle(marks, settings), 0, 0),
+        Ok(settings) => quiet(settle(marks, settings), 0, 0),
+        Err(e) => refuse(marks, e.number()),
     }
 }
 
@@ -37,12 +36,13 @@ pub(crate) fn receive_ready(marks: Marks, message: &[u8]) -> Turn
     ensures { off marks.ready ≡ true → (a : Arrays) (d : List ℕ) → Gives (of_parts marks a) (effect (of_parts marks a) message.now) d (turned result a) d }
 {
     match messages::read_header(message, messages::CLIENT_READY, messages::CLIENT_READY) {
-        Header::Refused(e) => refuse(marks, e),
-        Header::Event(_) => receive_settings(marks, &message[messages::HEADER_BYTES..]),
+        Ok((_, body)) => receive_settings(marks, body),
+        Err(e) => refuse(marks, e.number()),
     }
 }
 
 // The id of an accepted dismissal leaves the set.
+#[tactic(auto, unfolding(machine::specs::Held::held_without))]
 fn forget(refusal: u8, id: u8, held: &mut [u8; 256])
     ensures { held.new ≡ held_by refusal held.old id }
 {
@@ -65,8 +65,8 @@ pub(crate) fn receive_dismiss(
     ensures { Gives (of_parts marks (arrays_from states.old xs.old ys.old held.old)) (dismiss_effect (of_parts marks (arrays_from states.old xs.old ys.old held.old)) body.now) output.old (turned result (arrays_from states.new xs.new ys.new held.new)) output.new }
 {
     match messages::read_dismiss_body(body) {
-        ReadDismiss::Refused(e) => refuse(marks, e),
-        ReadDismiss::Id(id) => {
+        Err(e) => refuse(marks, e.number()),
+        Ok(id) => {
             let written = moves::dismiss(output, id, states, xs, ys);
             forget(written.refusal, id, held);
             quiet(marks, written.refusal, written.bytes / house::RECORD_BYTES)

@@ -7,7 +7,6 @@ ghost use Rattle.contacts.specs.Ruling.{arrays_from};
 ghost use Rattle.receiver.specs.Receive as spec;
 ghost use Rattle.receiver.specs.Receive.{of_parts};
 
-use messages::Header;
 use receiver::{Marks, Received, Receiver, Turn};
 
 // A message to a receiver that is lent in parts, judged and carried out, or refused with nothing changed: the marks after it, and the
@@ -27,14 +26,11 @@ pub fn receive_parts(
         return events::receive_ready(marks, message);
     }
     match messages::read_header(message, messages::TOUCH, messages::DISMISS) {
-        Header::Refused(e) => receiver::refuse(marks, e),
-        Header::Event(e) => {
-            let body = &message[messages::HEADER_BYTES..];
-            if e == messages::TOUCH {
-                return touch_events::receive_touch(marks, body, output, states, xs, ys, held);
-            }
-            events::receive_dismiss(marks, body, output, states, xs, ys, held)
+        Err(e) => receiver::refuse(marks, e.number()),
+        Ok((messages::TOUCH, body)) => {
+            touch_events::receive_touch(marks, body, output, states, xs, ys, held)
         }
+        Ok((_, body)) => events::receive_dismiss(marks, body, output, states, xs, ys, held),
     }
 }
 
@@ -56,9 +52,8 @@ pub fn receive(receiver: Receiver, message: &[u8], output: &mut [u8]) -> Receive
         &mut ys,
         &mut held,
     );
-    let answer = turn.answer;
     Received {
         receiver: receiver::of_parts(turn.marks, states, xs, ys, held),
-        answer: answer,
+        answer: turn.answer,
     }
 }

@@ -7,7 +7,6 @@ use mathlib.Core.List.{List, [], ◌∷◌}
 use native.Mathlib.Omega.{arith}
 use lib.Dec.{eqb}
 use lib.ListN.{length, take, drop, length-drop}
-use lib.Seq.{drop-drop}
 use Rattle.paper.specs.Refusals.{bad_record}
 use Rattle.formats.specs.Format.{Got, got, bad, and_then, read_series}
 use Rattle.formats.specs.Answer.{skipped}
@@ -24,7 +23,7 @@ use Rattle.well_formed.proofs.WellFormed as well
 use Rattle.well_formed.proofs.Front.{well-read, well-short}
 use Rattle.framing.specs.Frame.{Frame, head_of}
 use Rattle.recordings.specs.Records.{stands, head_record, contact_record, frame_records, read_all, frames_in}
-use Rattle.recordings.specs.Answer.{kind_in, contacts_after, stands_as, counted}
+use Rattle.recordings.specs.Answer.{kind_in, contacts_after, stands_as}
 use Rattle.recordings.proofs.Records.{passed, stood}
 
 -- ---- one record
@@ -45,10 +44,8 @@ stands_read kind l r e = go (well_formed l) refl
     go true h = rw (w, h) (ap (λ (k : ℕ). eqb k kind) (ap kind_in e ∙ kind-front l (front l) h))
     go false h = rw (w, h)
 
-pub contact-stands : (l : List ℕ) (at : ℕ) → stands touched (drop at l) ≡ true → contact_record.read (drop at l) ≡ got (contact_of (take 21 (drop at l))) (drop (at + 21) l)
-contact-stands l at h =
-    let c = contact_of (take 21 (drop at l)) in
-    ap (λ (b : Bool). cond b (got c (drop 21 (drop at l))) (bad bad_record)) h ∙ ap (got c) (drop-drop 21 at l)
+pub contact-stands : (l : List ℕ) → stands touched l ≡ true → contact_record.read l ≡ got (contact_of (take 21 l)) (drop 21 l)
+contact-stands l h = ap (λ (b : Bool). cond b (got (contact_of (take 21 l)) (drop 21 l)) (bad bad_record)) h
 
 pub contact-fails : (l : List ℕ) → stands touched l ≡ false → contact_record.read l ≡ bad bad_record
 contact-fails l h = ap (λ (b : Bool). cond b (got (contact_of (take 21 l)) (drop 21 l)) (bad bad_record)) h
@@ -170,10 +167,6 @@ frames-refused l e h = go (frames_in l) h (all-tame (length l) l)
 abbrev pub tally : ℕ → Got (List (Frame Contact)) → Got ℕ
 tally n (got fs t) = got (n + length fs) []
 tally n (bad e) = bad e
-
-pub tally-none : (x : Got (List (Frame Contact))) → tally 0 x ≡ counted x
-tally-none (got fs t) = ap (λ (n : ℕ). got n []) (omega arith)
-tally-none (bad e) = refl
 
 pub tally-end : (n : ℕ) (l : List ℕ) → length l ≤ 0 → tally n (frames_in l) ≡ got n []
 tally-end n l h = ap (tally n) (frames-none l h) ∙ ap (λ (k : ℕ). got k []) (omega arith)

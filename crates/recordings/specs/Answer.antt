@@ -5,7 +5,6 @@ use Rattle.house.specs.declared.Record.{Record}
 use Rattle.house.specs.declared.Contact.{Contact}
 use Rattle.well_formed.specs.WellFormed.{well_as}
 use Rattle.framing.specs.Frame.{Frame}
-use Rattle.recordings.specs.declared.Counted.{Counted}
 
 -- the kind of a record, and no kind where there is no whole record
 abbrev pub kind_in : Record → ℕ
@@ -27,11 +26,3 @@ contacts_after (Record.Refused e) = 0
 abbrev pub counted : Got (List (Frame Contact)) → Got ℕ
 counted (got fs t) = got (length fs) []
 counted (bad e) = bad e
-
-abbrev pub counted_got : Counted → Got ℕ
-counted_got (Counted.Frames n) = got n []
-counted_got (Counted.Refused e) = bad e
-
-abbrev pub counted_refusal : Counted → ℕ
-counted_refusal (Counted.Frames n) = 0
-counted_refusal (Counted.Refused e) = e

@@ -1,23 +1,22 @@
 // A frame's contact, read from its record.
-ghost use Rattle.formats.specs.Answer.{Answers};
-ghost use Rattle.touch.specs.Answer.{contact_got, contact_length};
+ghost use Rattle.std.specs.Prelude.{◌≡◌};
+ghost use Rattle.formats.specs.Answer.{read_of};
 ghost use Rattle.recordings.specs.Records.{contact_record};
 
 use crate::judge::is_of_kind;
-use house::Record;
-use touch::ReadContact;
+use house::{Contact, RECORD_BYTES, Record};
+use paper::Refusal;
 
-// The contact of the record at the front.
-pub fn read_contact(records: &[u8]) -> ReadContact
-    ensures { Answers contact_record records.now (contact_got result records.now) (contact_length result) }
+// The contact of the record at the front, and what is behind it.
+pub fn read_contact(records: &[u8]) -> Result<(Contact, &[u8]), Refusal>
+    ensures { read_of result ≡ contact_record.read records.now }
 {
     let found = unpacking::read_record(records);
     if !is_of_kind(records, found, house::TOUCHED) {
-        return ReadContact::Refused(paper::BAD_RECORD);
+        return Err(Refusal::BadRecord);
     }
     match found {
-        Record::Head(_) => ReadContact::Refused(paper::BAD_RECORD),
-        Record::Contact(_, contact) => ReadContact::Value(contact, house::RECORD_BYTES),
-        Record::Refused(e) => ReadContact::Refused(e),
+        Record::Contact(_, contact) => Ok((contact, &records[RECORD_BYTES..])),
+        _ => Err(Refusal::BadRecord),
     }
 }

@@ -1,14 +1,12 @@
 // Whether all the records are well formed, each head followed by its count of contacts, and how many frames they are.
 ghost use Rattle.std.specs.Prelude.{◌≡◌};
 ghost use Rattle.formats.specs.Format.{times};
-ghost use Rattle.formats.specs.Answer.{Answers, skip};
-ghost use Rattle.touch.specs.Answer.{end_got, end_length};
+ghost use Rattle.formats.specs.Answer.{left_of, whole_of, skip};
 ghost use Rattle.recordings.specs.Records.{stands, contact_record, frame_records, frames_in};
-ghost use Rattle.recordings.specs.Answer.{kind_in, contacts_after, stands_as, counted, counted_got};
+ghost use Rattle.recordings.specs.Answer.{kind_in, contacts_after, stands_as, counted};
 
-use crate::Counted;
-use house::Record;
-use touch::End;
+use house::{RECORD_BYTES, Record};
+use paper::Refusal;
 
 // No kind: what stands where there is no whole record.
 const NO_KIND: u8 = 255;
@@ -52,51 +50,41 @@ fn is_standing(records: &[u8], kind: u8) -> bool
     is_of_kind(records, unpacking::read_record(records), kind)
 }
 
-// Where n contacts end.
-fn skip_contacts(records: &[u8], n: usize) -> End
-    ensures { Answers (skip (times n contact_record)) records.now (end_got result records.now) (end_length result) }
+// What is behind n contacts.
+fn skip_contacts(records: &[u8], n: usize) -> Result<&[u8], Refusal>
+    ensures { left_of result ≡ (skip (times n contact_record)).read records.now }
 {
-    let mut at: usize = 0;
-    let mut left = n;
-    while 0 < left {
-        if !is_standing(&records[at..], house::TOUCHED) {
-            return End::Refused(paper::BAD_RECORD);
+    let mut left = records;
+    for _ in 0..n {
+        if !is_standing(left, house::TOUCHED) {
+            return Err(Refusal::BadRecord);
         }
-        at += house::RECORD_BYTES;
-        left -= 1;
+        left = &left[RECORD_BYTES..];
     }
-    End::At(at)
+    Ok(left)
 }
 
-// Where a frame ends.
-fn skip_frame(records: &[u8]) -> End
-    ensures { Answers (skip frame_records) records.now (end_got result records.now) (end_length result) }
+// What is behind a frame.
+fn skip_frame(records: &[u8]) -> Result<&[u8], Refusal>
+    ensures { left_of result ≡ (skip frame_records).read records.now }
 {
     let found = unpacking::read_record(records);
     if !is_of_kind(records, found, house::HEAD) {
-        return End::Refused(paper::BAD_RECORD);
+        return Err(Refusal::BadRecord);
     }
     let count = contacts_after(found);
-    let got_end = skip_contacts(&records[house::RECORD_BYTES..], count as usize);
-    let End::At(n) = got_end else {
-        return got_end;
-    };
-    End::At(house::RECORD_BYTES + n)
+    skip_contacts(&records[RECORD_BYTES..], count as usize)
 }
 
 // How many frames there are.
-pub fn count_frames(records: &[u8]) -> Counted
-    ensures { counted_got result ≡ counted (frames_in records.now) }
+pub fn count_frames(records: &[u8]) -> Result<usize, Refusal>
+    ensures { whole_of result ≡ counted (frames_in records.now) }
 {
-    let mut at: usize = 0;
+    let mut left = records;
     let mut frames: usize = 0;
-    while at < records.len() {
-        let got = skip_frame(&records[at..]);
-        let End::At(n) = got else {
-            return Counted::Refused(got.refusal());
-        };
-        at += n;
+    while !left.is_empty() {
+        left = skip_frame(left)?;
         frames += 1;
     }
-    Counted::Frames(frames)
+    Ok(frames)
 }

@@ -18,14 +18,12 @@ fn write_records(output: &[u8], records: usize)
 // A proved loop has to end, and nothing says that an input does: it stops after more rounds than any run has.
 fn run(space: &mut [u8], answers: &mut [u32], output: &mut [u8]) {
     let mut round = rounds::begin();
-    let mut left: u64 = 0xFFFF_FFFF_FFFF_FFFF;
-    while 0 < left {
+    for _ in 0..u64::MAX {
         round = rounds::go_on(feed::STANDARD_INPUT, space, round, answers, output);
         if round.entries == 0 {
             return;
         }
         write_records(output, round.records);
-        left -= 1;
     }
 }
 

@@ -101,8 +101,7 @@ fn print_entries(
         round = rounds::go_on(input, space, round, answers, output);
         let entries = round.entries;
         if entries == 0 {
-            let window = round.window;
-            let end = print_last(page, at, window, number);
+            let end = print_last(page, at, round.window, number);
             lines::write_out(page, end);
             return number;
         }

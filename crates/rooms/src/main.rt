@@ -50,7 +50,7 @@ fn run(space: &mut [u8], page: &mut [u8], output: &mut [u8], records: &mut [u8])
 {
     let mut receiver = receiver::fresh();
     let mut stand = turns::begin();
-    while stand.number < 0xFFFF_FFFF_FFFF_FFFF {
+    for _ in 1..u64::MAX {
         let turn = turns::next_turn(space, page, stand, line::LINE_MOST);
         let Turn::Entry(from, to, line) = turn else {
             return;

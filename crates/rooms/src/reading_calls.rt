@@ -11,9 +11,8 @@ fn add_name(page: &mut [u8], place: usize, strictly: bool) -> usize {
 
 // What a reading answered.
 fn add_answer(page: &mut [u8], place: usize, answer: PlainAnswer) -> usize {
-    let time = answer.time;
     let mut at = lines::add_field(page, place, answer.refusal as u64);
-    at = lines::add_count(page, at, time.0);
+    at = lines::add_count(page, at, answer.time.0);
     lines::add_field(page, at, answer.records as u64)
 }
 
@@ -36,7 +35,7 @@ fn call_with(
     room: usize,
     strictly: bool,
 ) -> usize {
-    let end = lent::at_most(room, output.len());
+    let end = room.min(output.len());
     call(page, place, entry, &mut output[..end], strictly)
 }
 

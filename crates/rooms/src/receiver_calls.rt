@@ -4,12 +4,11 @@ use receiver::{Answer, Receiver};
 
 // What a receiver answered.
 fn add_answer(page: &mut [u8], place: usize, answer: Answer) -> usize {
-    let time = answer.time;
     let mut at = lines::add_field(page, place, answer.refusal as u64);
     at = lines::add_field(page, at, answer.injected as u64);
     at = lines::add_field(page, at, answer.ignored as u64);
     at = lines::add_field(page, at, answer.cancelled as u64);
-    at = lines::add_count(page, at, time.0);
+    at = lines::add_count(page, at, answer.time.0);
     lines::add_field(page, at, answer.records as u64)
 }
 
@@ -37,7 +36,7 @@ fn call_with(
     output: &mut [u8],
     room: usize,
 ) -> Told {
-    let end = lent::at_most(room, output.len());
+    let end = room.min(output.len());
     call(page, place, receiver, entry, &mut output[..end])
 }
 

@@ -1,7 +1,6 @@
 // The writers, of what an entry is.
 use crate::draft::Draft;
 use crate::{draft, lent, line};
-use messages::{ReadDismiss, ReadReady, ReadVersion};
 
 // One call, with all of what is lent.
 fn call(page: &mut [u8], place: usize, draft: Draft, records: &[u8], out: &mut [u8]) -> usize {
@@ -23,7 +22,7 @@ fn call_with(
     output: &mut [u8],
     room: usize,
 ) -> usize {
-    let end = lent::at_most(room, output.len());
+    let end = room.min(output.len());
     call(page, place, draft, records, &mut output[..end])
 }
 
@@ -84,12 +83,11 @@ fn tell_touch(
         return place;
     }
     let end = lent::bytes_of(answer.records, records.len());
-    let time = answer.time;
     tell_draft(
         page,
         place,
         number,
-        Draft::Touch(time),
+        Draft::Touch(answer.time),
         &records[..end],
         output,
     )
@@ -103,7 +101,7 @@ fn tell_other(
     entry: &[u8],
     output: &mut [u8],
 ) -> usize {
-    if let ReadVersion::Version(version) = messages::read_server_ready(entry) {
+    if let Ok(version) = messages::read_server_ready(entry) {
         return tell_draft(
             page,
             place,
@@ -113,7 +111,7 @@ fn tell_other(
             output,
         );
     }
-    if let ReadReady::Ready(settings) = messages::read_client_ready(entry) {
+    if let Ok(settings) = messages::read_client_ready(entry) {
         return tell_draft(
             page,
             place,
@@ -123,13 +121,13 @@ fn tell_other(
             output,
         );
     }
-    if messages::read_suspend(entry) == 0 {
+    if messages::read_suspend(entry).is_ok() {
         return tell_draft(page, place, number, Draft::Suspend, b"", output);
     }
-    if messages::read_resume(entry) == 0 {
+    if messages::read_resume(entry).is_ok() {
         return tell_draft(page, place, number, Draft::Resume, b"", output);
     }
-    if let ReadDismiss::Id(id) = messages::read_dismiss(entry) {
+    if let Ok(id) = messages::read_dismiss(entry) {
         return tell_draft(page, place, number, Draft::Dismiss(id), b"", output);
     }
     place

@@ -49,14 +49,12 @@ pub fn go_on(
         answers,
         output,
     );
-    let next = fed.receiver;
-    let rest = Window {
-        at: at + fed.used,
-        end: end,
-    };
     Round {
-        receiver: next,
-        window: rest,
+        receiver: fed.receiver,
+        window: Window {
+            at: at + fed.used,
+            end,
+        },
         entries: fed.entries,
         records: fed.records,
     }

@@ -27,14 +27,15 @@ use Rattle.touch.specs.Limits.{touch_limits}
 use Rattle.touch.specs.Touch.{contact, frame}
 use Rattle.touch.proofs.Laws.{contact-law}
 use Rattle.touch.proofs.Passes.{frame_by}
-use Rattle.frame_records.specs.Frames.{nowhere}
+use Rattle.frame_records.specs.Frames.{empty_head, head_in, contacts_in}
 use Rattle.machine.specs.Rules.{Rules}
 use Rattle.machine.specs.Machine.{Machine, Arrays, in_mode, none, plus, count_of, verdict, step_machine, step_bytes, run_machine, run_bytes, run_counts}
 use Rattle.machine.proofs.Machine.{none-plus, plus_none, plus_assoc}
 use Rattle.contacts.specs.Touch.{touch_view, touch_rules}
 use Rattle.contacts.specs.Ruling.{contacts_of, Counted}
+use Rattle.moves.specs.Moves.{behind}
 use Rattle.runs.specs.declared.Run.{Run}
-use Rattle.runs.specs.Runs.{timed_head, laid_by, passing, head_in, contacts_in, behind, Underway, on_frame, on_frames, beginning, Runs}
+use Rattle.runs.specs.Runs.{timed_head, laid_by, passing, Underway, on_frame, on_frames, beginning, Runs}
 use Rattle.runs.proofs.Turning.{machine_in, counts_of, Turned, turned}
 
 -- ---- frames as they are written, one by one
@@ -177,16 +178,16 @@ module _ (untimed wet : Bool) (most : ℕ) where
       let hr : Bytes r.after = ((frame-head-law taken taken-law touch_limits false).sound l (head_of f) r.after hl r.head).1 in
       let hx : Bytes x.after = ((frame-law taken taken-law touch_limits (contact taken) (contact-law taken taken-law) false).sound l f x.after hl x.one).1 in
       let head : Head = head_of now in
-      let eh : timed_head untimed (head_in l) ≡ head = ap (λ y. timed_head untimed (on_read nowhere.head (λ g t. g) y)) r.head ∙ timed-head untimed f in
+      let eh : timed_head untimed (head_in l) ≡ head = ap (λ y. timed_head untimed (on_read empty_head (λ g t. g) y)) r.head ∙ timed-head untimed f in
       let ec : contacts_in l ≡ r.after = ap (on_read l (λ g t. t)) r.head in
-      let eb : behind (head_in l).count (contacts_in l) ≡ x.after =
-      (λ i. behind (on_read nowhere.head (λ g t. g) (r.head i)).count (ec i)) ∙ ap (on_read r.after (λ cs t. t)) r.contacts in
+      let eb : behind (contact taken) (head_in l).count (contacts_in l) ≡ x.after =
+      (λ i. behind (contact taken) (on_read empty_head (λ g t. g) (r.head i)).count (ec i)) ∙ ap (on_read r.after (λ cs t. t)) r.contacts in
       let en : contacts_of head.count r.after ≡ got now.contacts x.after = rw (timed-contacts untimed f) r.contacts in
       let w = on_frame untimed wet most head r.after u in
       let t = turned head r.after wet most u.run u.arrays (drop u.place u.output) now x.after refl en a hr in
       let o = leads x.after w x.rest rest hx t.active x.others in
       let k : timed_frames untimed fs ≡ now ∷ later = ap (timed_frames untimed) x.all ∙ timed-cons untimed f x.rest in
-      let z : on_frames untimed wet most n x.after w ≡ on_frames untimed wet most n (behind (head_in l).count (contacts_in l)) (on_frame untimed wet most (timed_head untimed (head_in l)) (contacts_in l) u) =
+      let z : on_frames untimed wet most n x.after w ≡ on_frames untimed wet most n (behind (contact taken) (head_in l).count (contacts_in l)) (on_frame untimed wet most (timed_head untimed (head_in l)) (contacts_in l) u) =
       sym (λ i. on_frames untimed wet most n (eb i) (on_frame untimed wet most (eh i) (ec i) u)) in
       let v : Went (touch_rules most) wet (timed_frames untimed fs) u (on_frames untimed wet most n x.after w) = subst (λ gs. Went (touch_rules most) wet gs u (on_frames untimed wet most n x.after w)) (sym k) (went-cons (touch_rules most) wet now later u w _ _ t refl refl o) in
       subst (Went (touch_rules most) wet (timed_frames untimed fs) u) z v

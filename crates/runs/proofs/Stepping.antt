@@ -13,22 +13,21 @@ use Rattle.contacts.specs.Ruling.{table_from}
 use Rattle.contacts.specs.declared.Ruling.{Ruling}
 use Rattle.openings.specs.Openings.{Lists}
 use Rattle.runs.specs.declared.Run.{Run}
-use Rattle.runs.specs.declared.Stepped.{Stepped}
 use Rattle.runs.specs.Runs.{Injects, Ignores, Cancels, Steps}
 use Rattle.runs.proofs.Laying.{lays-none}
 
 -- a frame's contacts, listed beside those who were active
-pub lists-active : (n : ℕ) (l : List ℕ) (end : ℕ) (t : Table) (marks after : List ℕ) → marks ≡ active_ids (table_from t.states [] []) → Lists n l end marks after
-    → Lists n l end (active_ids t) after
+pub lists-active : (n : ℕ) (l rest : List ℕ) (t : Table) (marks after : List ℕ) → marks ≡ active_ids (table_from t.states [] []) → Lists n l rest marks after
+    → Lists n l rest (active_ids t) after
 unfolding active_ids
-lists-active n l end t marks after e h = subst (λ (k : List ℕ). Lists n l end k after) e h
+lists-active n l rest t marks after e h = subst (λ (k : List ℕ). Lists n l rest k after) e h
 
-module _ (g : Ruling) (head : Head) (l : List ℕ) (wet : Bool) (run : Run) (r : Stepped) (a b : Arrays) (before after : List ℕ) where
-  pub steps-injected : (k : ℕ) → Ruling.Injected k ≡ g → Injects head k l wet run r a b before after → Steps g head l wet run r a b before after
+module _ (g : Ruling) (head : Head) (l : List ℕ) (wet : Bool) (run r : Run) (rest : List ℕ) (a b : Arrays) (before after : List ℕ) where
+  pub steps-injected : (k : ℕ) → Ruling.Injected k ≡ g → Injects head k l wet run r rest a b before after → Steps g head l wet run r rest a b before after
   steps-injected k q i =
       let x = i.answer in
       let c = i.small in
-      subst (λ (v : Ruling). Steps v head l wet run r a b before after) q (record {
+      subst (λ (v : Ruling). Steps v head l wet run r rest a b before after) q (record {
         frames = rw x (omega arith);
         small = rw x (omega arith);
         more = rw x (omega arith);
@@ -38,11 +37,11 @@ module _ (g : Ruling) (head : Head) (l : List ℕ) (wet : Bool) (run : Run) (r :
         passed = i.carried.table.passed;
       })
 
-  pub steps-cancelled : Ruling.Cancelled ≡ g → Cancels head.count l wet run r a b before after → Steps g head l wet run r a b before after
+  pub steps-cancelled : Ruling.Cancelled ≡ g → Cancels head.count l wet run r rest a b before after → Steps g head l wet run r rest a b before after
   steps-cancelled q i =
       let x = i.answer in
       let c = i.small in
-      subst (λ (v : Ruling). Steps v head l wet run r a b before after) q (record {
+      subst (λ (v : Ruling). Steps v head l wet run r rest a b before after) q (record {
         frames = rw x (omega arith);
         small = rw x (omega arith);
         more = rw x (omega arith);
@@ -52,11 +51,11 @@ module _ (g : Ruling) (head : Head) (l : List ℕ) (wet : Bool) (run : Run) (r :
         passed = i.held.passed;
       })
 
-pub steps-ignored : (g : Ruling) (head : Head) (l : List ℕ) (wet : Bool) (run : Run) (r : Stepped) (a : Arrays) (held before : List ℕ) → Ruling.Ignored ≡ g
-    → Ignores head.count l run r a.held held → Steps g head l wet run r a (record { table = a.table; held = held }) before before
-steps-ignored g head l wet run r a held before q i =
+pub steps-ignored : (g : Ruling) (head : Head) (l : List ℕ) (wet : Bool) (run r : Run) (rest : List ℕ) (a : Arrays) (held before : List ℕ) → Ruling.Ignored ≡ g
+    → Ignores head.count l run r rest a.held held → Steps g head l wet run r rest a (record { table = a.table; held = held }) before before
+steps-ignored g head l wet run r rest a held before q i =
     let x = i.answer in
-    subst (λ (v : Ruling). Steps v head l wet run r a (record { table = a.table; held = held }) before before) q (record {
+    subst (λ (v : Ruling). Steps v head l wet run r rest a (record { table = a.table; held = held }) before before) q (record {
       frames = rw x (omega arith);
       small = rw x (omega arith);
       more = rw x (omega arith);

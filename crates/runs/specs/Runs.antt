@@ -7,9 +7,9 @@ use Rattle.states.specs.Table.{next}
 use Rattle.house.specs.Fields.{record_bytes}
 use Rattle.house.specs.declared.Head.{Head}
 use Rattle.house.specs.declared.Contact.{Contact}
-use Rattle.framing.specs.After.{on_read, after_read}
-use Rattle.touch.specs.Touch.{contact, frame_head}
-use Rattle.frame_records.specs.Frames.{records_read, frame_draft, nowhere}
+use Rattle.framing.specs.After.{after_read}
+use Rattle.touch.specs.Touch.{contact}
+use Rattle.frame_records.specs.Frames.{records_read, frame_draft, head_in, contacts_in}
 use Rattle.machine.specs.Table.{Table, resting}
 use Rattle.machine.specs.Conforms.{moved}
 use Rattle.machine.specs.Held.{nobody, active_ids, with_listing}
@@ -17,10 +17,9 @@ use Rattle.machine.specs.Machine.{Arrays, cancels}
 use Rattle.contacts.specs.Touch.{touch_view}
 use Rattle.contacts.specs.Ruling.{contacts_of, judged_from, ruling_by}
 use Rattle.contacts.specs.declared.Ruling.{Ruling}
-use Rattle.moves.specs.Moves.{Ends, Applies}
+use Rattle.moves.specs.Moves.{behind, Applies}
 use Rattle.openings.specs.Openings.{judged_among, Lists}
 use Rattle.runs.specs.declared.Run.{Run}
-use Rattle.runs.specs.declared.Stepped.{Stepped}
 
 -- ---- frames as they are written: with no offset where the client asked for none
 
@@ -34,12 +33,12 @@ abbrev pub laid_by : Bool → Draft → List ℕ → List ℕ
 laid_by wet d before = cond wet (left before (given (length before) d)) before
 
 -- of n contacts, where there is room for their records: the table as they leave it, and their records
-pub record CarriesContacts (n : ℕ) (l : List ℕ) (end : ℕ) (t u : Table) (before after : List ℕ) : Type 0 where
-  pub table : Applies (contact taken) n l end t u
+pub record CarriesContacts (n : ℕ) (l rest : List ℕ) (t u : Table) (before after : List ℕ) : Type 0 where
+  pub table : Applies (contact taken) n l rest t u
   pub output : after ≡ laid before (records_read n [] l)
 
-pub record CarriesFrame (wet : Bool) (head : Head) (l : List ℕ) (end : ℕ) (t u : Table) (before after : List ℕ) : Type 0 where
-  pub table : Applies (contact taken) head.count l end t u
+pub record CarriesFrame (wet : Bool) (head : Head) (l rest : List ℕ) (t u : Table) (before after : List ℕ) : Type 0 where
+  pub table : Applies (contact taken) head.count l rest t u
   pub output : after ≡ laid_by wet (frame_draft (length before) head l) before
 
 -- ---- a run so far
@@ -47,6 +46,10 @@ pub record CarriesFrame (wet : Bool) (head : Head) (l : List ℕ) (end : ℕ) (t
 -- how many frames it has come over
 abbrev pub frames_passed : Run → ℕ
 frames_passed r = r.injected + r.ignored + r.cancelled
+
+-- its counts have room for one more
+abbrev pub HasRoom : Run → Type 0
+HasRoom r = (frames_passed r < 255) × (r.records ≤ 4294967296)
 
 abbrev pub started : Bool → ℕ → Run
 started running active = record { running = running; active = active; injected = 0; ignored = 0; cancelled = 0; records = 0 }
@@ -87,32 +90,32 @@ draft_after (Ruling.Injected k) room head l t = frame_draft room head l
 draft_after Ruling.Ignored room head l t = bytes []
 draft_after Ruling.Cancelled room head l t = bytes (cancels touch_view t)
 
-pub record Injects (head : Head) (active : ℕ) (l : List ℕ) (wet : Bool) (run : Run) (r : Stepped) (a b : Arrays) (before after : List ℕ) : Type 0 where
-  pub answer : r.run ≡ injected_run run head.count active
+pub record Injects (head : Head) (active : ℕ) (l : List ℕ) (wet : Bool) (run r : Run) (rest : List ℕ) (a b : Arrays) (before after : List ℕ) : Type 0 where
+  pub answer : r ≡ injected_run run head.count active
   pub small : head.count < 65536
-  pub carried : CarriesFrame wet head l r.end a.table b.table before after
+  pub carried : CarriesFrame wet head l rest a.table b.table before after
   pub held : b.held ≡ cond run.running a.held nobody
 
-pub record Ignores (n : ℕ) (l : List ℕ) (run : Run) (r : Stepped) (before after : List ℕ) : Type 0 where
-  pub answer : r.run ≡ ignored_run run
-  pub held : Lists n l r.end before after
+pub record Ignores (n : ℕ) (l : List ℕ) (run r : Run) (rest : List ℕ) (before after : List ℕ) : Type 0 where
+  pub answer : r ≡ ignored_run run
+  pub held : Lists n l rest before after
 
-pub record Cancels (n : ℕ) (l : List ℕ) (wet : Bool) (run : Run) (r : Stepped) (a b : Arrays) (before after : List ℕ) : Type 0 where
-  pub answer : r.run ≡ cancelled_run run
+pub record Cancels (n : ℕ) (l : List ℕ) (wet : Bool) (run r : Run) (rest : List ℕ) (a b : Arrays) (before after : List ℕ) : Type 0 where
+  pub answer : r ≡ cancelled_run run
   pub small : run.active < 65536
   pub table : b.table ≡ resting
-  pub held : Lists n l r.end (active_ids a.table) b.held
+  pub held : Lists n l rest (active_ids a.table) b.held
   pub output : after ≡ laid_by wet (bytes (cancels touch_view a.table)) before
 
 -- a frame with the ruling g, and bounds that hold whatever it is
-pub record Steps (g : Ruling) (head : Head) (l : List ℕ) (wet : Bool) (run : Run) (r : Stepped) (a b : Arrays) (before after : List ℕ) : Type 0 where
-  pub frames : frames_passed r.run ≤ frames_passed run + 1
-  pub small : r.run.records ≤ run.records + 65536
-  pub more : run.records ≤ r.run.records
-  pub answer : r.run ≡ run_after g head.count run
+pub record Steps (g : Ruling) (head : Head) (l : List ℕ) (wet : Bool) (run r : Run) (rest : List ℕ) (a b : Arrays) (before after : List ℕ) : Type 0 where
+  pub frames : frames_passed r ≤ frames_passed run + 1
+  pub small : r.records ≤ run.records + 65536
+  pub more : run.records ≤ r.records
+  pub answer : r ≡ run_after g head.count run
   pub arrays : b ≡ arrays_after g head.count l run.running a
   pub output : after ≡ laid_by wet (draft_after g (length before) head l a.table) before
-  pub passed : Ends (contact taken) head.count l r.end
+  pub passed : rest ≡ behind (contact taken) head.count l
 
 -- ---- the frames of a message
 
@@ -123,17 +126,6 @@ passing place records room = cond (leb (record_bytes * records) (room - place)) 
 pub record Passes (place records room r : ℕ) : Type 0 where
   pub same : r ≡ passing place records room
   pub inside : r ≤ room
-
--- the head of the frame at the front of l, and what is behind it; a head that cannot be read is one of no contact, and nothing is passed
-abbrev pub head_in : List ℕ → Head
-head_in l = on_read nowhere.head (λ h t. h) ((frame_head taken false).read l)
-
-abbrev pub contacts_in : List ℕ → List ℕ
-contacts_in l = on_read l (λ h t. t) ((frame_head taken false).read l)
-
--- what is behind n contacts; where they cannot all be read nothing is passed
-abbrev pub behind : ℕ → List ℕ → List ℕ
-behind n l = on_read l (λ cs t. t) (contacts_of n l)
 
 -- a run under way: what it has come to, the arrays, the output, and the place in it where the next record goes
 pub record Underway : Type 0 where
@@ -160,7 +152,7 @@ module _ (untimed wet : Bool) (most : ℕ) where
   -- the n frames at the front of l, one after the other
   unfoldable pub on_frames : ℕ → List ℕ → Underway → Underway
   on_frames zero l u = u
-  on_frames (suc n) l u = on_frames n (behind (head_in l).count (contacts_in l)) (on_frame (timed_head untimed (head_in l)) (contacts_in l) u)
+  on_frames (suc n) l u = on_frames n (behind (contact taken) (head_in l).count (contacts_in l)) (on_frame (timed_head untimed (head_in l)) (contacts_in l) u)
 
 -- no more records than these, whatever is read: of 255 frames at most, each gives at most 65536
 abbrev pub most_records : ℕ

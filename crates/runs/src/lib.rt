@@ -23,21 +23,14 @@ pub struct Run {
     pub records: usize,
 }
 
-// A run after one more frame, and where the frame's contacts end.
-#[derive(Clone, Copy)]
-pub(crate) struct Stepped {
-    pub run: Run,
-    pub end: usize,
-}
-
 // A head as it is written: with no offset where the client asked for none.
 fn timed(head: Head, untimed: bool) -> Head
     ensures { result ≡ timed_head untimed head }
 {
     if untimed {
         return Head {
-            count: head.count,
             offset: Microseconds(0),
+            ..head
         };
     }
     head
@@ -48,8 +41,8 @@ fn start(running: bool, active: u16) -> Run
     ensures { result ≡ started running active }
 {
     Run {
-        running: running,
-        active: active,
+        running,
+        active,
         injected: 0,
         ignored: 0,
         cancelled: 0,
@@ -88,18 +81,15 @@ pub fn run_frames(
 {
     let mut run = start(running, active);
     let mut pos: usize = 0;
-    let mut at: usize = 0;
-    let mut left = n;
-    while 0 < left {
-        let found = frame_records::find_head(&frames[at..]);
-        let head = timed(found.head, untimed);
-        at += found.contacts;
+    let mut left = frames;
+    for _ in 0..n {
+        let (head, contacts) = frame_records::find_head(left);
+        let head = timed(head, untimed);
         let before = run.records;
-        let rest = &frames[at..];
-        let next = step::step(
+        let (next, behind) = step::step(
             &mut out[pos..],
             wet,
-            rest,
+            contacts,
             head,
             most,
             run,
@@ -108,10 +98,9 @@ pub fn run_frames(
             ys,
             held,
         );
-        run = next.run;
+        run = next;
+        left = behind;
         pos = pass(pos, run.records - before, out.len());
-        at += next.end;
-        left -= 1;
     }
     run
 }

@@ -1,18 +1,19 @@
 // One frame.
-ghost use Rattle.std.specs.Prelude.{◌+◌, ◌≤◌, ◌<◌, ◌≡◌, cond};
+ghost use Rattle.std.specs.Prelude.{◌+◌, ◌<◌, ◌≡◌, cond};
 ghost use Rattle.slices.specs.Writing.{bytes};
 ghost use Rattle.machine.specs.Held.{nobody};
 ghost use Rattle.machine.specs.Machine.{cancels};
 ghost use Rattle.contacts.specs.Touch.{touch_view};
 ghost use Rattle.contacts.specs.Ruling.{contacts_of, table_from, arrays_from};
-ghost use Rattle.runs.specs.Runs.{laid_by, frames_passed, ruling_on, Injects, Ignores, Cancels, Steps};
+ghost use Rattle.runs.specs.Runs.{laid_by, frames_passed, HasRoom, ruling_on, Injects, Ignores, Cancels, Steps};
 
+use crate::Run;
 use crate::carry::carry;
-use crate::{Run, Stepped};
 use contacts::Ruling;
 use house::Head;
 
 // The set is emptied when a frame opens; while running it is not looked at.
+#[tactic(auto, unfolding(machine::specs::Held::nobody))]
 fn empty(running: bool, held: &mut [u8; 256])
     ensures { held.new ≡ cond running held.old nobody }
 {
@@ -22,10 +23,10 @@ fn empty(running: bool, held: &mut [u8; 256])
 }
 
 // A conforming frame: its records, where they are to be written, and its contacts in the table.
-fn inject(
+fn inject<'a>(
     out: &mut [u8],
     wet: bool,
-    rest: &[u8],
+    rest: &'a [u8],
     head: Head,
     active: u16,
     run: Run,
@@ -33,25 +34,21 @@ fn inject(
     xs: &mut [i32; 256],
     ys: &mut [i32; 256],
     held: &mut [u8; 256],
-) -> Stepped
-    requires { (frames_passed run < 255) × (run.records ≤ 4294967296) }
-    ensures { Injects head active rest.now wet run result (arrays_from states.old xs.old ys.old held.old) (arrays_from states.new xs.new ys.new held.new) out.old out.new }
+) -> (Run, &'a [u8])
+    requires { HasRoom run }
+    ensures { Injects head active rest.now wet run result.0 result.1.now (arrays_from states.old xs.old ys.old held.old) (arrays_from states.new xs.new ys.new held.new) out.old out.new }
 {
     empty(run.running, held);
     let count = head.count as usize;
-    let end = carry(out, wet, head, rest, states, xs, ys);
+    let left = carry(out, wet, head, rest, states, xs, ys);
     let next = Run {
         running: true,
-        active: active,
+        active,
         injected: run.injected + 1,
-        ignored: run.ignored,
-        cancelled: run.cancelled,
         records: run.records + count + 1,
+        ..run
     };
-    Stepped {
-        run: next,
-        end: end,
-    }
+    (next, left)
 }
 
 // A cancel for each active contact, where they are to be written.
@@ -64,19 +61,19 @@ fn write_cancelled(out: &mut [u8], wet: bool, states: &[u8; 256], xs: &[i32; 256
 }
 
 // A frame that does not conform: a cancel for each active contact, and all go out of range. The set is of those, and of the frame's.
-fn cancel(
+fn cancel<'a>(
     out: &mut [u8],
     wet: bool,
-    rest: &[u8],
+    rest: &'a [u8],
     n: usize,
     run: Run,
     states: &mut [u8; 256],
     xs: &mut [i32; 256],
     ys: &mut [i32; 256],
     held: &mut [u8; 256],
-) -> Stepped
-    requires { (frames_passed run < 255) × (run.records ≤ 4294967296) }
-    ensures { Cancels n rest.now wet run result (arrays_from states.old xs.old ys.old held.old) (arrays_from states.new xs.new ys.new held.new) out.old out.new }
+) -> (Run, &'a [u8])
+    requires { HasRoom run }
+    ensures { Cancels n rest.now wet run result.0 result.1.now (arrays_from states.old xs.old ys.old held.old) (arrays_from states.new xs.new ys.new held.new) out.old out.new }
 {
     write_cancelled(out, wet, states, xs, ys);
     openings::mark_active(states, held);
@@ -84,35 +81,24 @@ fn cancel(
     let next = Run {
         running: false,
         active: 0,
-        injected: run.injected,
-        ignored: run.ignored,
         cancelled: run.cancelled + 1,
         records: run.records + run.active as usize,
+        ..run
     };
-    let end = openings::list_contacts(rest, n, held);
-    Stepped {
-        run: next,
-        end: end,
-    }
+    let left = openings::list_contacts(rest, n, held);
+    (next, left)
 }
 
 // Any other frame while ignoring: nothing happens, but to the set.
-fn ignore(rest: &[u8], n: usize, run: Run, held: &mut [u8; 256]) -> Stepped
+fn ignore<'a>(rest: &'a [u8], n: usize, run: Run, held: &mut [u8; 256]) -> (Run, &'a [u8])
     requires { frames_passed run < 255 }
-    ensures { Ignores n rest.now run result held.old held.new }
+    ensures { Ignores n rest.now run result.0 result.1.now held.old held.new }
 {
     let next = Run {
-        running: run.running,
-        active: run.active,
-        injected: run.injected,
         ignored: run.ignored + 1,
-        cancelled: run.cancelled,
-        records: run.records,
+        ..run
     };
-    Stepped {
-        run: next,
-        end: openings::list_contacts(rest, n, held),
-    }
+    (next, openings::list_contacts(rest, n, held))
 }
 
 // What becomes of a frame, by its contacts and by the run so far.
@@ -133,10 +119,10 @@ fn ruling_on(
 }
 
 // What becomes of a frame whose contacts are at the front of rest.
-pub(crate) fn step(
+pub(crate) fn step<'a>(
     out: &mut [u8],
     wet: bool,
-    rest: &[u8],
+    rest: &'a [u8],
     head: Head,
     most: u16,
     run: Run,
@@ -144,9 +130,9 @@ pub(crate) fn step(
     xs: &mut [i32; 256],
     ys: &mut [i32; 256],
     held: &mut [u8; 256],
-) -> Stepped
-    requires { (frames_passed run < 255) × (run.records ≤ 4294967296) }
-    ensures { Steps (ruling_on most run (arrays_from states.old xs.old ys.old held.old) (contacts_of head.count rest.now)) head rest.now wet run result (arrays_from states.old xs.old ys.old held.old) (arrays_from states.new xs.new ys.new held.new) out.old out.new }
+) -> (Run, &'a [u8])
+    requires { HasRoom run }
+    ensures { Steps (ruling_on most run (arrays_from states.old xs.old ys.old held.old) (contacts_of head.count rest.now)) head rest.now wet run result.0 result.1.now (arrays_from states.old xs.old ys.old held.old) (arrays_from states.new xs.new ys.new held.new) out.old out.new }
 {
     let n = head.count as usize;
     let ruling = ruling_on(run, rest, head.count, most, states, xs, ys, held);

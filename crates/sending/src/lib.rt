@@ -28,13 +28,12 @@ pub struct Outgoing {
 fn marks_of(panel: Panel) -> PanelMarks
     ensures { result ≡ panel_marks panel }
 {
-    let settings = panel.settings;
     PanelMarks {
         greeted: panel.greeted,
         ready: panel.ready,
         suspended: panel.suspended,
         begun: panel.begun,
-        settings: settings,
+        settings: panel.settings,
     }
 }
 
@@ -42,16 +41,15 @@ fn marks_of(panel: Panel) -> PanelMarks
 fn of_parts(marks: PanelMarks, states: [u8; 256], xs: [i32; 256], ys: [i32; 256]) -> Panel
     ensures { result ≡ panel_of_parts marks (table_from states xs ys) }
 {
-    let settings = marks.settings;
     Panel {
         greeted: marks.greeted,
         ready: marks.ready,
         suspended: marks.suspended,
         begun: marks.begun,
-        settings: settings,
-        states: states,
-        xs: xs,
-        ys: ys,
+        settings: marks.settings,
+        states,
+        xs,
+        ys,
     }
 }
 
@@ -59,12 +57,9 @@ fn of_parts(marks: PanelMarks, states: [u8; 256], xs: [i32; 256], ys: [i32; 256]
 pub fn take(panel: Panel, message: &[u8]) -> Arrived
     ensures { Takes panel message.now result.panel result.refusal }
 {
-    let states = panel.states;
-    let xs = panel.xs;
-    let ys = panel.ys;
     let heard = take_parts(marks_of(panel), message);
     Arrived {
-        panel: of_parts(heard.marks, states, xs, ys),
+        panel: of_parts(heard.marks, panel.states, panel.xs, panel.ys),
         refusal: heard.refusal,
     }
 }
@@ -73,14 +68,10 @@ pub fn take(panel: Panel, message: &[u8]) -> Arrived
 pub fn write_ready(panel: Panel, out: &mut [u8], flags: u32, version: u32, most: u16) -> Outgoing
     ensures { Sends panel (ready_sending panel (record { flags = flags; version = version; most = most })) result.panel result.written out.old out.new }
 {
-    let states = panel.states;
-    let xs = panel.xs;
-    let ys = panel.ys;
     let said = write_ready_parts(marks_of(panel), out, flags, version, most);
-    let written = said.written;
     Outgoing {
-        panel: of_parts(said.marks, states, xs, ys),
-        written: written,
+        panel: of_parts(said.marks, panel.states, panel.xs, panel.ys),
+        written: said.written,
     }
 }
 
@@ -93,10 +84,9 @@ pub fn write_touch(panel: Panel, out: &mut [u8], time: Milliseconds, records: &[
     let mut ys = panel.ys;
     let marks = marks_of(panel);
     let said = write_touch_parts(marks, out, time, records, &mut states, &mut xs, &mut ys);
-    let written = said.written;
     Outgoing {
         panel: of_parts(said.marks, states, xs, ys),
-        written: written,
+        written: said.written,
     }
 }
 
@@ -109,9 +99,8 @@ pub fn write_dismiss(panel: Panel, out: &mut [u8], id: u8) -> Outgoing
     let mut ys = panel.ys;
     let marks = marks_of(panel);
     let said = write_dismiss_parts(marks, out, id, &mut states, &mut xs, &mut ys);
-    let written = said.written;
     Outgoing {
         panel: of_parts(said.marks, states, xs, ys),
-        written: written,
+        written: said.written,
     }
 }

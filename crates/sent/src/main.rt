@@ -35,8 +35,7 @@ fn run(space: &mut [u8], page: &mut [u8], output: &mut [u8])
     let mut panel = panels::fresh();
     let mut window = feed::opened();
     let mut at: usize = 0;
-    let mut left: u64 = 0xFFFF_FFFF_FFFF_FFFF;
-    while 0 < left {
+    for _ in 0..u64::MAX {
         let next = feed::next_entry(space, window);
         let Next::Entry(from, n, rest) = next else {
             lines::write_out(page, at);
@@ -46,9 +45,7 @@ fn run(space: &mut [u8], page: &mut [u8], output: &mut [u8])
         let obeyed = commands::obey(panel, &space[from..to], output);
         panel = obeyed.panel;
         window = rest;
-        let written = obeyed.written;
-        at = add_entry(page, at, output, written.bytes);
-        left -= 1;
+        at = add_entry(page, at, output, obeyed.written.bytes);
     }
 }
 

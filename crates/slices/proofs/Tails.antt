@@ -75,6 +75,3 @@ pub front-step : (d s : List ℕ) (i : ℕ) → i < length d → i < length s �
 front-step d s i hd hs =
     let l : length (take i s) ≡ i = length-take-le i s (omega arith) in
     rw (add-one, drop-cons d i 0, set_at (take i s) (get_or d i 0) (drop (suc i) d) (get_or s i 0) i l, take-suc s i 0) (sym (append_snoc (take i s) (get_or s i 0) (drop (suc i) d)))
-
-pub front-all : (d s : List ℕ) (i : ℕ) → length s ≡ i → take i s ++ drop i d ≡ laid d s
-front-all d s i e = rw (take_all i s (omega arith), ← e)

@@ -1,7 +1,11 @@
 // How every writer writes: at the front of the output that it is lent, its bytes and nothing past them.
 #![tactic(auto)]
 
-ghost use Rattle.slices.specs.Writing.{bytes, Writes};
+ghost use Rattle.std.specs.Prelude.{◌≡◌};
+ghost use Rattle.paper.specs.Refusals.{none, number};
+ghost use Rattle.slices.specs.Writing.{bytes, refuse, answered, Writes};
+
+use paper::Refusal;
 
 // What a writer answers: a refusal's number, 0 for none, and how many bytes it wrote.
 #[repr(C)]
@@ -11,23 +15,36 @@ pub struct Written {
     pub bytes: usize,
 }
 
+impl Written {
+    // A refusal: no byte is written.
+    pub fn refused(refusal: Refusal) -> Written
+        ensures { result ≡ answered (refuse (number refusal)) }
+    {
+        Written {
+            refusal: refusal.number(),
+            bytes: 0,
+        }
+    }
+
+    // So many bytes, and no refusal.
+    pub fn done(count: usize) -> Written
+        ensures { result ≡ record { refusal = none; bytes = count } }
+    {
+        Written {
+            refusal: 0,
+            bytes: count,
+        }
+    }
+}
+
 // Lays all of source over the front of out, where there is room.
 pub fn lay(out: &mut [u8], source: &[u8]) -> Written
     ensures { Writes (bytes source.now) result out.old out.new }
 {
-    if out.len() < source.len() {
-        return Written {
-            refusal: paper::NO_ROOM,
-            bytes: 0,
-        };
+    let n = source.len();
+    if out.len() < n {
+        return Written::refused(Refusal::NoRoom);
     }
-    let mut i: usize = 0;
-    while i < source.len() {
-        out[i] = source[i];
-        i += 1;
-    }
-    Written {
-        refusal: 0,
-        bytes: i,
-    }
+    out[..n].copy_from_slice(source);
+    Written::done(n)
 }

@@ -7,7 +7,7 @@ use mathlib.Core.List.{List, [], append-nil}
 use native.Mathlib.Omega.{arith}
 use lib.IntN.{ℤ, nat_abs}
 use lib.ListN.{length, length-append}
-use Rattle.integers.specs.Answer.{minus}
+use Rattle.integers.specs.Shape.{minus}
 use Rattle.integers.proofs.Laws.{writing-most}
 use Rattle.fields.specs.Integers.{taken}
 use Rattle.house.specs.declared.Contact.{Contact}

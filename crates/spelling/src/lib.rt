@@ -22,7 +22,7 @@ pub const PRESSURE: u16 = 4;
 fn point_bytes(place: Point) -> usize
     ensures { result ≡ length ((point taken).write place) }
 {
-    integer_writers::s4_bytes(place.x) + integer_writers::s4_bytes(place.y)
+    integer_writers::bytes(place.x) + integer_writers::bytes(place.y)
 }
 
 // The sides, where they are there.
@@ -30,10 +30,8 @@ fn sides_bytes(there: bool, four: Sides) -> usize
     ensures { result ≡ length (cond there ((sides taken).write four) []) }
 {
     if there {
-        let high = integer_writers::s2_bytes(four.left) + integer_writers::s2_bytes(four.top);
-        return high
-            + integer_writers::s2_bytes(four.right)
-            + integer_writers::s2_bytes(four.bottom);
+        let high = integer_writers::bytes(four.left) + integer_writers::bytes(four.top);
+        return high + integer_writers::bytes(four.right) + integer_writers::bytes(four.bottom);
     }
     0
 }
@@ -43,7 +41,7 @@ fn number_bytes(there: bool, value: u32) -> usize
     ensures { result ≡ length (cond there (taken.u4.write value) []) }
 {
     if there {
-        return integer_writers::u4_bytes(value);
+        return integer_writers::bytes(value);
     }
     0
 }
@@ -63,8 +61,8 @@ fn optional_bytes(touch: Contact) -> usize
 fn contact_bytes(touch: Contact) -> usize
     ensures { result ≡ length ((contact taken).write touch) }
 {
-    let lead = 1 + integer_writers::u2_bytes(touch.present as u16);
-    let place = point_bytes(touch.place) + integer_writers::u4_bytes(touch.flags as u32);
+    let lead = 1 + integer_writers::bytes(touch.present as u16);
+    let place = point_bytes(touch.place) + integer_writers::bytes(touch.flags as u32);
     lead + place + optional_bytes(touch)
 }
 
@@ -72,7 +70,7 @@ fn contact_bytes(touch: Contact) -> usize
 fn frame_head_bytes(head: Head) -> usize
     ensures { result ≡ length ((frame_head taken false).write head) }
 {
-    integer_writers::u2_bytes(head.count) + integer_writers::u8_bytes(head.offset.0)
+    integer_writers::bytes(head.count) + integer_writers::bytes(head.offset.0)
 }
 
 // The record at the front of what is lent.
@@ -90,5 +88,5 @@ pub fn record_bytes(records: &[u8]) -> usize
 pub fn touch_head_bytes(time: Milliseconds, frames: u8) -> usize
     ensures { result ≡ length ((touch_head taken).write (record { time = time; frames = frames })) }
 {
-    integer_writers::u4_bytes(time.0) + integer_writers::u2_bytes(frames as u16)
+    integer_writers::bytes(time.0) + integer_writers::bytes(frames as u16)
 }

@@ -1,7 +1,7 @@
 -- Records that are taken, one after the other.
 -- Assumes nothing.
 use Prim.Native.Nat.{ℕ, ◌<◌}
-use mathlib.Core.Path.{◌≡◌, refl}
+use mathlib.Core.Path.{◌≡◌, refl, sym, ◌∙◌}
 use mathlib.Core.Bool.{Bool, true, false, cond, not, beq}
 use mathlib.Core.List.{List, [], ◌∷◌}
 use native.Mathlib.Omega.{arith}
@@ -9,9 +9,11 @@ use lib.Dec.{eqb}
 use lib.ListN.{length, drop}
 use Rattle.house.specs.Fields.{record_bytes}
 use Rattle.house.specs.Layout.{record_of}
+use Rattle.house.specs.declared.Record.{Record}
 use Rattle.house.specs.Records as house
 use Rattle.house.proofs.Records.{records-step}
-use Rattle.well_formed.specs.WellFormed.{all, well_formed}
+use Rattle.well_formed.specs.WellFormed.{all, well_as, well_formed}
+use Rattle.well_formed.proofs.Front.{well-read}
 use Rattle.presses.specs.Choosing.{may_stand, due_after, in_frames, is_legal, states_after, by_table, is_taken_from}
 
 -- a contact of a frame stands where one is due
@@ -24,6 +26,10 @@ due-is false false = refl
 same : (b : Bool) → cond b true false ≡ b
 same true = refl
 same false = refl
+
+-- what was read at the front is judged as what stands there
+pub judged-is : (l : List ℕ) (found : Record) (b : Bool) → b ≡ well_as l found → found ≡ record_of l → well_formed l ≡ b
+judged-is l found b e f = sym (e ∙ well-read l found f)
 
 -- the end: none is due
 pub taken-end : (due : ℕ) (states l : List ℕ) → length l < 1 → is_taken_from due states l ≡ eqb due 0

@@ -4,9 +4,10 @@
 
 ghost use Rattle.std.specs.Prelude.{◌≡◌};
 ghost use Rattle.presses.specs.Choosing.{may_stand, due_after, is_legal, states_after, is_taken};
-ghost use Rattle.presses.specs.Turns.{ruled};
+ghost use Rattle.presses.specs.Turns.{ruling_number, ruled};
 
 use house::Record;
+use paper::Refusal;
 
 // Whether a record may stand where so many contacts are due of a frame.
 fn may_stand(due: u16, found: Record) -> bool
@@ -25,17 +26,13 @@ fn due_after(due: u16, found: Record) -> u16
 {
     match found {
         Record::Head(head) => head.count,
-        Record::Contact(_, _) => {
-            if due == 0 {
-                return 0;
-            }
-            due - 1
-        }
+        Record::Contact(_, _) => due.saturating_sub(1),
         Record::Refused(_) => due,
     }
 }
 
 // Whether a record goes by the state table; the state that it leads to is stored.
+#[tactic(auto, unfolding(presses::specs::Choosing::states_after))]
 fn follow(states: &mut [u8; 256], found: Record) -> bool
     ensures { (result ≡ is_legal states.old found) × (states.new ≡ states_after states.old found) }
 {
@@ -57,33 +54,30 @@ pub fn are_taken(states: [u8; 256], records: &[u8]) -> bool
 {
     let mut kept = states;
     let mut due: u16 = 0;
-    let mut at: usize = 0;
-    while at < records.len() {
-        let found = unpacking::read_record(&records[at..]);
-        if !well_formed::is_well_formed(&records[at..], found) {
-            return false;
-        }
-        if !may_stand(due, found) {
-            return false;
-        }
-        if !follow(&mut kept, found) {
+    let mut left = records;
+    while !left.is_empty() {
+        let found = unpacking::read_record(left);
+        if !well_formed::is_well_formed(left, found)
+            || !may_stand(due, found)
+            || !follow(&mut kept, found)
+        {
             return false;
         }
         due = due_after(due, found);
-        at += house::RECORD_BYTES;
+        left = &left[house::RECORD_BYTES..];
     }
     due == 0
 }
 
-// What records are refused with, 0 for nothing, where so many choices were counted and the list has so many numbers.
-pub fn rule(states: [u8; 256], records: &[u8], count: usize, numbers: usize) -> u8
-    ensures { result ≡ ruled states records.now count numbers }
+// What records are refused with, if they are, where so many choices were counted and the list has so many numbers.
+pub fn rule(states: [u8; 256], records: &[u8], count: usize, numbers: usize) -> Result<(), Refusal>
+    ensures { ruling_number result ≡ ruled states records.now count numbers }
 {
-    if are_taken(states, records) {
-        if count <= numbers / 2 {
-            return 0;
-        }
-        return paper::NO_ROOM;
+    if !are_taken(states, records) {
+        return Err(Refusal::BadRecord);
     }
-    paper::BAD_RECORD
+    if count <= numbers / 2 {
+        return Ok(());
+    }
+    Err(Refusal::NoRoom)
 }

@@ -1,6 +1,5 @@
 pub mod Laws
 pub mod Order
-pub mod Reading
 pub mod Passes
 pub mod Ranges
 pub mod Unique

@@ -1,4 +1,3 @@
 -- The touch message.
 pub mod Limits
 pub mod Touch
-pub mod Answer

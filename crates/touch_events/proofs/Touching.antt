@@ -1,19 +1,21 @@
 -- Touch messages: their frames counted, and carried out where there is room.
 -- Assumes nothing.
-use Prim.Native.Nat.{ℕ, ◌+◌, ◌-◌, ◌*◌, ◌/◌, ◌≤◌, ◌<◌}
+use Prim.Native.Nat.{ℕ, ◌+◌, ◌*◌, ◌/◌, ◌≤◌, ◌<◌}
 use mathlib.Core.Path.{◌≡◌, refl, sym, ap, ◌∙◌}
 use mathlib.Core.Bool.{Bool, true, false, cond, not}
 use mathlib.Core.List.{List, []}
 use native.Mathlib.Omega.{arith}
 use borrow.Author.Tests.{leb-true}
-use lib.ListN.{length, take, drop}
-use Rattle.paper.specs.Refusals.{none, no_room}
+use lib.ListN.{length}
+use Rattle.std.specs.Prelude.{Ok, Err}
+use Rattle.std.specs.Borrow.{Bor}
+use Rattle.paper.specs.Refusals.{none, no_room, number}
+use Rattle.paper.specs.declared.Refusal.{Refusal}
 use Rattle.paper.specs.declared.Milliseconds.{Milliseconds}
 use Rattle.digits.specs.Digits.{Bytes}
 use Rattle.slices.specs.Writing.{laid}
 use Rattle.formats.specs.Format.{Got, got, bad, read_series}
 use Rattle.formats.proofs.Laws.{never}
-use Rattle.formats.proofs.Steps.{tail}
 use Rattle.fields.specs.Integers.{taken}
 use Rattle.house.specs.declared.Contact.{Contact}
 use Rattle.framing.specs.Frame.{Frame, timed_frames, begun_by}
@@ -21,10 +23,10 @@ use Rattle.touch.specs.Limits.{touch_limits}
 use Rattle.framing.proofs.Reading.{frames-freed}
 use Rattle.framing.specs.Format.{body_head_of, summary}
 use Rattle.touch.specs.Touch.{Touch, body, contact}
-use Rattle.touch.specs.Answer.{checked_got, checked_refusal, Checks}
 use Rattle.framing.specs.declared.BodyHead.{BodyHead}
-use Rattle.touch.specs.declared.CheckedBody.{CheckedBody}
-use Rattle.touch.proofs.Passes.{frame_by, Checked, checked}
+use Rattle.touch.proofs.Passes.{frame_by}
+use Rattle.touch_frames.specs.Checks.{Checks}
+use Rattle.touch_frames.proofs.Passes.{Checked, checked}
 use Rattle.machine.specs.Table.{contacts}
 use Rattle.machine.specs.Machine.{Machine, Arrays, arrays_in, Counts, run_bytes}
 use Rattle.contacts.specs.Touch.{touch_view}
@@ -119,11 +121,11 @@ module _ (r : Receiver) (l : List ℕ) (un : Bool) (eu : un ≡ untimed r) (acti
 -- ---- counted first
 
 module _ (r : Receiver) (h : BodyHead) (l : List ℕ) (k : ℕ) (before mid : List ℕ) (t : Tallies r h.frames l k before mid) (q : Received) where
-  pub settles-none : length mid < 21 * k → q ≡ record { receiver = r; answer = refusal no_room } → Settles r h l before q mid
-  settles-none room a m rest eh e =
+  pub settles-none : (n : ℕ) → n ≡ no_room → length mid < 21 * k → q ≡ record { receiver = r; answer = refusal n } → Settles r h l before q mid
+  settles-none n f room a m rest eh e =
       let same = t.kept m.frames rest e in
       let w : length before < length (touched r m).bytes = rw (bytes_of r m) (omega (arith, room, t.count m.frames rest e, ap length same)) in
-      rw same (gives_none r before q (got (touched r m) rest) (touched r m) rest refl w a)
+      rw same (gives_none r before q (got (touched r m) rest) (touched r m) rest refl w (rw f at a))
 
   pub settles-done : (after : List ℕ) → 21 * k ≤ length mid → Carries r h l mid q after → Settles r h l before q after
   settles-done after room y m rest eh e =
@@ -135,21 +137,19 @@ module _ (r : Receiver) (h : BodyHead) (l : List ℕ) (k : ℕ) (before mid : Li
 -- ---- the whole body
 
 module _ (r : Receiver) (b : List ℕ) (j : Bool) (ej : j ≡ judged r) (before : List ℕ) (q : Received) where
-  pub touch-refused : (x : CheckedBody) (n k : ℕ) → Checks false j b x → x ≡ CheckedBody.Refused n → k ≡ checked_refusal x → q ≡ record { receiver = r; answer = refusal k }
-      → Gives r (touch_effect r b) before q before
-  touch-refused x n k c e f a = go (body taken j b) refl (sym (ap checked_got e) ∙ c.same)
+  pub touch-refused : (e : Refusal) (k : ℕ) → Checks false j b (Err e) → k ≡ number e → q ≡ record { receiver = r; answer = refusal k } → Gives r (touch_effect r b) before q before
+  touch-refused e k c f a = go (body taken j b) refl c.same
     where
-      go : (y : Got Touch) → body taken j b ≡ y → bad n ≡ summary y → Gives r (touch_effect r b) before q before
-      go (got m t) w s = never n (body_head_of m) t s
+      go : (y : Got Touch) → body taken j b ≡ y → bad (number e) ≡ summary y → Gives r (touch_effect r b) before q before
+      go (got m t) w s = never (number e) (body_head_of m) t s
       go (bad z) w s =
           let v : body taken (judged r) b ≡ bad z = rw ej at w in
-          let zn : z ≡ n = cc in
-          let kn : k ≡ z = f ∙ ap checked_refusal e ∙ sym zn in
-          gives-refused r before q (touch_effect r b) z (rw v) (a ∙ ap (λ (y : ℕ). record { receiver = r; answer = refusal y }) kn)
+          let n : number e ≡ z = cc in
+          gives-refused r before q (touch_effect r b) z (rw v) (a ∙ ap (λ (y : ℕ). record { receiver = r; answer = refusal y }) (f ∙ n))
 
-  module _ (h : BodyHead) (at : ℕ) (c : Checks false j b (CheckedBody.Body h at)) (after : List ℕ) where
-    it : Checked false j b h at
-    it = checked false j b h at c
+  module _ (h : BodyHead) (frames : Bor (List ℕ)) (c : Checks false j b (Ok (h, frames))) (after : List ℕ) where
+    it : Checked false j b h frames.now
+    it = checked false j b h frames c
 
     read : body taken (judged r) b ≡ got it.message []
     read = sym (ap (λ (y : Bool). body taken y b) ej) ∙ it.read
@@ -157,13 +157,13 @@ module _ (r : Receiver) (b : List ℕ) (j : Bool) (ej : j ≡ judged r) (before 
     effect_is : touch_effect r b ≡ got (touched r it.message) []
     effect_is = let v = read in rw v
 
-    frames-are : read_series frame_by false h.frames (take (length b - at) (drop at b)) ≡ got it.message.frames []
-    frames-are = rw (tail b at) (frames-freed taken touch_limits (contact taken) j h.frames (drop at b) it.message.frames [] it.frames)
+    frames-are : read_series frame_by false h.frames frames.now ≡ got it.message.frames []
+    frames-are = frames-freed taken touch_limits (contact taken) j h.frames frames.now it.message.frames [] it.frames
 
-    pub touch-settled : Settles r h (take (length b - at) (drop at b)) before q after → Gives r (touch_effect r b) before q after
+    pub touch-settled : Settles r h frames.now before q after → Gives r (touch_effect r b) before q after
     touch-settled s = gives_same r _ _ before q after effect_is (s it.message [] it.head frames-are)
 
-    pub touch-ample : ample (length b) (length before) ≡ true → Carries r h (take (length b - at) (drop at b)) before q after → Gives r (touch_effect r b) before q after
+    pub touch-ample : ample (length b) (length before) ≡ true → Carries r h frames.now before q after → Gives r (touch_effect r b) before q after
     touch-ample room y =
         let n : length b / 2 + contacts ≤ length before / 21 = leb-true _ _ room in
         let w : length (touched r it.message).bytes ≤ length before = omega (arith, n, touch-small r y.whole b it.message [] read) in

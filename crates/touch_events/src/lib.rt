@@ -9,10 +9,9 @@ ghost use Rattle.receiver.specs.Events.{turned, Gives, touch_effect};
 ghost use Rattle.touch_events.specs.Carrying.{answer_of_run, ample, Tallies, Carries, Settles};
 
 use framing::BodyHead;
-use paper::Milliseconds;
+use paper::{Milliseconds, Refusal};
 use receiver::{Answer, Marks, Turn, refuse};
 use runs::Run;
-use touch::CheckedBody;
 
 // How many contacts there are: an id is a byte.
 const CONTACTS: usize = 256;
@@ -46,7 +45,7 @@ fn answer_to(run: Run, time: Milliseconds) -> Answer
         injected: run.injected,
         ignored: run.ignored,
         cancelled: run.cancelled,
-        time: time,
+        time,
         records: run.records,
     }
 }
@@ -77,7 +76,7 @@ fn tally(
     let settings = marks.settings;
     let untimed = channel::is_untimed(settings.flags);
     let mut some_states = *states;
-    let active = contacts::active_in(some_states);
+    let active = contacts::count_active(&some_states);
     let mut some_xs = *xs;
     let mut some_ys = *ys;
     let mut some_held = *held;
@@ -113,7 +112,7 @@ fn carry_out(
 {
     let settings = marks.settings;
     let untimed = channel::is_untimed(settings.flags);
-    let active = contacts::active_in(*states);
+    let active = contacts::count_active(states);
     let run = runs::run_frames(
         output,
         true,
@@ -132,12 +131,11 @@ fn carry_out(
     let answer = answer_to(run, time_for(time, untimed));
     Turn {
         marks: Marks {
-            ready: marks.ready,
             begun: channel::begun_after(marks.begun, head.frames as usize),
             ignoring: ignoring_in(run.running),
-            settings: settings,
+            ..marks
         },
-        answer: answer,
+        answer,
     }
 }
 
@@ -170,7 +168,7 @@ fn carry_counted(
     if house::RECORD_BYTES * records <= output.len() {
         return carry_out(marks, head, frames, output, states, xs, ys, held);
     }
-    refuse(marks, paper::NO_ROOM)
+    refuse(marks, Refusal::NoRoom.number())
 }
 
 // A touch message's body. The two calls for a running and an ignoring receiver differ in nothing else: being two, they are compiled as
@@ -188,11 +186,10 @@ pub fn receive_touch(
 {
     let settings = marks.settings;
     let judged = channel::is_judged(settings.flags, marks.begun);
-    let checked = touch_frames::check_body(body, judged, false);
-    let CheckedBody::Body(head, at) = checked else {
-        return refuse(marks, checked.refusal());
+    let (head, frames) = match touch_frames::check_body(body, judged, false) {
+        Ok(checked) => checked,
+        Err(e) => return refuse(marks, e.number()),
     };
-    let frames = &body[at..];
     if is_ample(body.len(), output.len()) {
         return carry_out(marks, head, frames, output, states, xs, ys, held);
     }

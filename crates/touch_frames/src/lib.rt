@@ -1,160 +1,111 @@
-// Frames and the whole body of a touch message: where they end, or the first fault.
+// Frames and the whole body of a touch message: what is behind them, or the first fault.
 #![tactic(auto)]
 
-ghost use Rattle.formats.specs.Answer.{Answers, skip};
+ghost use Rattle.std.specs.Prelude.{◌≡◌};
+ghost use Rattle.formats.specs.Answer.{read_of, left_of, skip};
 ghost use Rattle.formats.specs.Format.{series, times};
 ghost use Rattle.fields.specs.Integers.{taken_by};
-ghost use Rattle.fields.specs.Answer.{length_of, u2_got, u8_got};
-ghost use Rattle.integers.specs.Answer.{u2_of, u8_of};
 ghost use Rattle.framing.specs.Format.{count_to, offset};
 ghost use Rattle.touch.specs.Touch.{contact, frame_head, frame, touch_head};
-ghost use Rattle.touch.specs.Answer.{head_got, head_length, touch_head_got, touch_head_length, end_got, end_length, Checks};
+ghost use Rattle.touch_frames.specs.Checks.{Checks};
 
 use framing::BodyHead;
 use house::Head;
-use integers::{ReadU2, ReadU4, ReadU8};
-use paper::{Microseconds, Milliseconds};
-use touch::{CheckedBody, End, ReadContact, ReadHead, ReadTouchHead};
+use paper::{Microseconds, Milliseconds, Refusal};
 
 // The most frames of a message.
 pub const FRAMES_MOST: u16 = 64;
 
 // contactCount and frameCount: at most so many.
-fn read_count(rest: &[u8], most: u16, strictly: bool) -> ReadU2
-    ensures { Answers (count_to (taken_by strictly) most) rest.now (u2_got result rest.now) (length_of (u2_of result)) }
+fn read_count(rest: &[u8], most: u16, strictly: bool) -> Result<(u16, &[u8]), Refusal>
+    ensures { read_of result ≡ (count_to (taken_by strictly) most).read rest.now }
 {
-    let got = integers::read_u2_by(rest, strictly);
-    let ReadU2::Value(n, _) = got else {
-        return got;
-    };
-    if most < n {
-        return ReadU2::Refused(paper::BAD_COUNT);
+    let (count, rest) = fields::read::<u16>(rest, strictly)?;
+    if count <= most {
+        return Ok((count, rest));
     }
-    got
+    Err(Refusal::BadCount)
 }
 
 // frameOffset: 0 where 11 is judged.
-fn read_offset(rest: &[u8], judged: bool, strictly: bool) -> ReadU8
-    ensures { Answers (offset (taken_by strictly) judged) rest.now (u8_got result rest.now) (length_of (u8_of result)) }
+fn read_offset(rest: &[u8], judged: bool, strictly: bool) -> Result<(u64, &[u8]), Refusal>
+    ensures { read_of result ≡ (offset (taken_by strictly) judged).read rest.now }
 {
-    let got = integers::read_u8_by(rest, strictly);
-    let ReadU8::Value(o, _) = got else {
-        return got;
-    };
-    if judged {
-        if o == 0 {
-            return got;
-        }
-        return ReadU8::Refused(paper::BAD_OFFSET);
+    let (offset, rest) = fields::read::<u64>(rest, strictly)?;
+    if judged & (offset != 0) {
+        return Err(Refusal::BadOffset);
     }
-    got
+    Ok((offset, rest))
 }
 
 // What stands before a frame's contacts.
-pub fn read_frame_head(rest: &[u8], judged: bool, strictly: bool) -> ReadHead
-    ensures { Answers (frame_head (taken_by strictly) judged) rest.now (head_got result rest.now) (head_length result) }
+#[tactic(auto, unfolding(framing::specs::Format::frame_head_format))]
+pub fn read_frame_head(rest: &[u8], judged: bool, strictly: bool) -> Result<(Head, &[u8]), Refusal>
+    ensures { read_of result ≡ (frame_head (taken_by strictly) judged).read rest.now }
 {
-    let got_count = read_count(rest, well_formed::CONTACTS_MOST, strictly);
-    let ReadU2::Value(count, at_offset) = got_count else {
-        return ReadHead::Refused(got_count.refusal());
-    };
-    let got_offset = read_offset(&rest[at_offset..], judged, strictly);
-    let ReadU8::Value(micros, n) = got_offset else {
-        return ReadHead::Refused(got_offset.refusal());
-    };
+    let (count, rest) = read_count(rest, well_formed::CONTACTS_MOST, strictly)?;
+    let (offset, rest) = read_offset(rest, judged, strictly)?;
     let found = Head {
-        count: count,
-        offset: Microseconds(micros),
+        count,
+        offset: Microseconds(offset),
     };
-    ReadHead::Value(found, at_offset + n)
+    Ok((found, rest))
 }
 
-// Where n contacts end, or the first fault.
-pub fn skip_contacts(rest: &[u8], n: usize, strictly: bool) -> End
-    ensures { Answers (skip (times n (contact (taken_by strictly)))) rest.now (end_got result rest.now) (end_length result) }
+// What is behind n contacts, or the first fault.
+pub fn skip_contacts(rest: &[u8], n: usize, strictly: bool) -> Result<&[u8], Refusal>
+    ensures { left_of result ≡ (skip (times n (contact (taken_by strictly)))).read rest.now }
 {
-    let mut at: usize = 0;
-    let mut left = n;
-    while 0 < left {
-        let got = touch::read_contact(&rest[at..], strictly);
-        let ReadContact::Value(_, k) = got else {
-            return End::Refused(got.refusal());
-        };
-        at += k;
-        left -= 1;
+    let mut left = rest;
+    for _ in 0..n {
+        let (_, behind) = touch::read_contact(left, strictly)?;
+        left = behind;
     }
-    End::At(at)
+    Ok(left)
 }
 
-// Where a frame ends, or its first fault.
-fn skip_frame(rest: &[u8], judged: bool, strictly: bool) -> End
-    ensures { Answers (skip (frame (taken_by strictly) judged)) rest.now (end_got result rest.now) (end_length result) }
+// What is behind a frame, or its first fault.
+#[tactic(auto, unfolding(framing::specs::Format::frame_format))]
+fn skip_frame(rest: &[u8], judged: bool, strictly: bool) -> Result<&[u8], Refusal>
+    ensures { left_of result ≡ (skip (frame (taken_by strictly) judged)).read rest.now }
 {
-    let got_head = read_frame_head(rest, judged, strictly);
-    let ReadHead::Value(head, at) = got_head else {
-        return End::Refused(got_head.refusal());
-    };
-    let got_end = skip_contacts(&rest[at..], head.count as usize, strictly);
-    let End::At(n) = got_end else {
-        return got_end;
-    };
-    End::At(at + n)
+    let (head, contacts) = read_frame_head(rest, judged, strictly)?;
+    skip_contacts(contacts, head.count as usize, strictly)
 }
 
-// Where n frames end, or the first fault. 11 is judged on the first frame alone.
-fn skip_frames(rest: &[u8], n: usize, judged: bool, strictly: bool) -> End
-    ensures { Answers (skip (series (frame (taken_by strictly)) judged n)) rest.now (end_got result rest.now) (end_length result) }
+// What is behind n frames, or the first fault. 11 is judged on the first frame alone.
+fn skip_frames(rest: &[u8], n: usize, judged: bool, strictly: bool) -> Result<&[u8], Refusal>
+    ensures { left_of result ≡ (skip (series (frame (taken_by strictly)) judged n)).read rest.now }
 {
-    let mut at: usize = 0;
-    let mut left = n;
-    let mut first = judged;
-    while 0 < left {
-        let got = skip_frame(&rest[at..], first, strictly);
-        let End::At(k) = got else {
-            return got;
-        };
-        at += k;
-        left -= 1;
-        first = false;
+    let mut left = rest;
+    for i in 0..n {
+        left = skip_frame(left, (i == 0) & judged, strictly)?;
     }
-    End::At(at)
+    Ok(left)
 }
 
 // What stands before a message's frames.
-pub fn read_touch_head(rest: &[u8], strictly: bool) -> ReadTouchHead
-    ensures { Answers (touch_head (taken_by strictly)) rest.now (touch_head_got result rest.now) (touch_head_length result) }
+#[tactic(auto, unfolding(framing::specs::Format::body_head_format))]
+pub fn read_touch_head(rest: &[u8], strictly: bool) -> Result<(BodyHead, &[u8]), Refusal>
+    ensures { read_of result ≡ (touch_head (taken_by strictly)).read rest.now }
 {
-    let got_time = integers::read_u4_by(rest, strictly);
-    let ReadU4::Value(time, at_count) = got_time else {
-        return ReadTouchHead::Refused(got_time.refusal());
-    };
-    let got_count = read_count(&rest[at_count..], FRAMES_MOST, strictly);
-    let ReadU2::Value(count, n) = got_count else {
-        return ReadTouchHead::Refused(got_count.refusal());
-    };
-    let frames = count as u8;
-    let end = at_count + n;
+    let (time, rest) = fields::read::<u32>(rest, strictly)?;
+    let (count, rest) = read_count(rest, FRAMES_MOST, strictly)?;
     let found = BodyHead {
         time: Milliseconds(time),
-        frames: frames,
+        frames: count as u8,
     };
-    ReadTouchHead::Value(found, end)
+    Ok((found, rest))
 }
 
-// The whole body, judged to its last byte.
-pub fn check_body(rest: &[u8], judged: bool, strictly: bool) -> CheckedBody
-    ensures { Checks strictly judged rest.now result }
+// The whole body, judged to its last byte: what stands before its frames, and these.
+pub fn check_body(body: &[u8], judged: bool, strictly: bool) -> Result<(BodyHead, &[u8]), Refusal>
+    ensures { Checks strictly judged body.now result }
 {
-    let got_head = read_touch_head(rest, strictly);
-    let ReadTouchHead::Value(head, at) = got_head else {
-        return CheckedBody::Refused(got_head.refusal());
-    };
-    let got_end = skip_frames(&rest[at..], head.frames as usize, judged, strictly);
-    let End::At(n) = got_end else {
-        return CheckedBody::Refused(got_end.refusal());
-    };
-    if at + n < rest.len() {
-        return CheckedBody::Refused(paper::TRAILING);
+    let (head, frames) = read_touch_head(body, strictly)?;
+    let left = skip_frames(frames, head.frames as usize, judged, strictly)?;
+    if left.is_empty() {
+        return Ok((head, frames));
     }
-    CheckedBody::Body(head, at)
+    Err(Refusal::Trailing)
 }

@@ -1,10 +1,9 @@
 -- Turns: that they meet their contract, what a caller needs of one, and that lines stand whole where the longest has room.
 -- Assumes nothing.
-use Prim.Native.Nat.{ℕ, ◌+◌, ◌≤◌, ◌<◌}
+use Prim.Native.Nat.{ℕ, ◌+◌, ◌≤◌}
 use mathlib.Core.Path.{◌≡◌, refl, ap, ◌∙◌}
 use mathlib.Core.List.{List, [], ◌∷◌}
 use native.Mathlib.Omega.{arith}
-use borrow.Author.Tests.{lt-ltb}
 use lib.ListN.{length, length-append}
 use Rattle.feed.specs.Within.{HandsOut}
 use Rattle.feed.specs.declared.Window.{Window}
@@ -15,11 +14,7 @@ use Rattle.lines.proofs.Decimal.{digits-few}
 use Rattle.lines.proofs.Printing.{turned-has-room, added-prints, prints-then}
 use Rattle.turns.specs.declared.Stand.{Stand}
 use Rattle.turns.specs.declared.Turn.{Turn}
-use Rattle.turns.specs.Turns.{following, numbered, turn_of, page_of, Turns, EndsLine, TellsLine}
-
--- the number of a run rises with each turn
-pub rises : (first line last : ℕ) → line ≡ first → last ≡ following line → first < 18446744073709551615 → last ≡ first + 1
-rises first line last e n h = n ∙ (ap following e ∙ rw (lt-ltb first 18446744073709551615 h))
+use Rattle.turns.specs.Turns.{numbered, turn_of, page_of, Turns, EndsLine, TellsLine}
 
 -- ---- the three turns
 

@@ -76,10 +76,9 @@ pub fn next_turn(space: &mut [u8], page: &mut [u8], stand: Stand, most: usize) -
 pub fn end_line(page: &mut [u8], stand: Stand, place: usize) -> Stand
     ensures { EndsLine stand place page.old page.new result }
 {
-    let window = stand.window;
     Stand {
-        window: window,
         at: lines::add_byte(page, place, b'\n'),
         number: after(stand.number),
+        ..stand
     }
 }

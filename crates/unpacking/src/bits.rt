@@ -10,12 +10,10 @@ pub(crate) fn get(whole: &[u8], at: usize, width: usize) -> u64
     requires { Within at width (length whole.now) }
     ensures { (result ≡ joined 0 whole.now / 2 ^ (168 - (at + width)) % 2 ^ width) × (result < 2 ^ width) }
 {
-    let mut i = at / 8;
     let end = (at + width + 7) / 8;
     let mut n: u64 = 0;
-    while i < end {
-        n = n * 256 + whole[i] as u64;
-        i = i + 1;
+    for byte in &whole[at / 8..end] {
+        n = n * 256 + *byte as u64;
     }
     low_bits(n >> (8 * end - (at + width)), width)
 }

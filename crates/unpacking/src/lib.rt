@@ -5,6 +5,7 @@ ghost use Rattle.std.specs.Prelude.{◌≡◌};
 ghost use Rattle.house.specs.Layout.{record_of, spare_zero};
 
 use house::{HEAD, RECORD_BYTES, Record};
+use paper::Refusal;
 
 mod bits;
 mod read;
@@ -14,10 +15,9 @@ mod signs;
 pub fn read_record(records: &[u8]) -> Record
     ensures { result ≡ record_of records.now }
 {
-    if records.len() < RECORD_BYTES {
-        return Record::Refused(paper::BAD_RECORD);
-    }
-    let whole = &records[..RECORD_BYTES];
+    let Some(whole) = records.first_chunk::<RECORD_BYTES>() else {
+        return Record::Refused(Refusal::BadRecord.number());
+    };
     let kind = read::read_kind(whole);
     if kind == HEAD {
         return Record::Head(read::read_head(whole));
@@ -29,10 +29,9 @@ pub fn read_record(records: &[u8]) -> Record
 pub fn is_spare_zero(records: &[u8]) -> bool
     ensures { result ≡ spare_zero records.now }
 {
-    if records.len() < RECORD_BYTES {
+    let Some(whole) = records.first_chunk::<RECORD_BYTES>() else {
         return false;
-    }
-    let whole = &records[..RECORD_BYTES];
+    };
     let kind = read::read_kind(whole);
     if kind == HEAD {
         return read::is_head_spare_zero(whole);

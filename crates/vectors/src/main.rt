@@ -55,14 +55,12 @@ fn run(space: &mut [u8])
     requires { entry_most ≤ length space.old }
 {
     let mut window = feed::opened();
-    let mut number: u64 = 1;
-    while number < 0xFFFF_FFFF_FFFF_FFFF {
+    for number in 1..u64::MAX {
         let next = turn(space, window, number);
         let Next::Entry(_, _, after) = next else {
             return;
         };
         window = after;
-        number += 1;
     }
 }
 

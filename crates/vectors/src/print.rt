@@ -1,4 +1,6 @@
 // Words and numbers of a line, each with a space before it.
+use integers::Integer;
+
 // Standard output, as the system numbers it.
 const STANDARD_OUTPUT: i32 = 1;
 
@@ -21,24 +23,19 @@ pub(crate) fn number(n: u64) {
     io::print_decimal(STANDARD_OUTPUT, n);
 }
 
-// A number with its sign: of one below 0, what it lacks to -1 and one more.
-fn signed(z: i64) {
+// A number of sign and magnitude: 1 is minus.
+pub(crate) fn whole(sign: u8, size: u64) {
     io::write_all(STANDARD_OUTPUT, b" ");
-    if z < 0 {
+    if sign != 0 {
         io::write_all(STANDARD_OUTPUT, b"-");
-        let below = (-1 - z) as u64;
-        io::print_decimal(STANDARD_OUTPUT, below + 1);
-        return;
     }
-    io::print_decimal(STANDARD_OUTPUT, z as u64);
+    io::print_decimal(STANDARD_OUTPUT, size);
 }
 
-pub(crate) fn place(z: i32) {
-    signed(z as i64);
-}
-
-pub(crate) fn side(z: i16) {
-    signed(z as i64);
+// A number with its sign.
+pub(crate) fn signed<T: Integer>(z: T) {
+    let (sign, size) = z.split();
+    whole(sign, size);
 }
 
 pub(crate) fn refused(number: u8) {
@@ -49,12 +46,10 @@ pub(crate) fn refused(number: u8) {
 // Bytes in hexadecimal, or - for none.
 pub(crate) fn hex(bytes: &[u8]) {
     io::write_all(STANDARD_OUTPUT, b" ");
-    if bytes.len() == 0 {
+    if bytes.is_empty() {
         io::write_all(STANDARD_OUTPUT, b"-");
     }
-    let mut i: usize = 0;
-    while i < bytes.len() {
-        io::print_hex(STANDARD_OUTPUT, bytes[i] as u64, 2);
-        i += 1;
+    for byte in bytes {
+        io::print_hex(STANDARD_OUTPUT, *byte as u64, 2);
     }
 }

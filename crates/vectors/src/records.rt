@@ -17,7 +17,7 @@ fn put_head(count: u16, rest: &[u8]) {
     let high = parse::word(rest[0], rest[1], rest[2], rest[3]);
     let low = parse::word(rest[4], rest[5], rest[6], rest[7]);
     let head = Head {
-        count: count,
+        count,
         offset: Microseconds(parse::joined(high, low)),
     };
     let mut space = [0xEEu8; 32];
@@ -105,21 +105,20 @@ fn show_contact(kind: u8, c: Contact) {
     print::number(c.flags as u64);
     print::number(c.present as u64);
     print::number(c.id as u64);
-    print::place(c.place.x);
-    print::place(c.place.y);
-    print::side(c.sides.left);
-    print::side(c.sides.top);
-    print::side(c.sides.right);
-    print::side(c.sides.bottom);
+    print::signed(c.place.x);
+    print::signed(c.place.y);
+    print::signed(c.sides.left);
+    print::signed(c.sides.top);
+    print::signed(c.sides.right);
+    print::signed(c.sides.bottom);
     print::number(c.orientation as u64);
     print::number(c.pressure as u64);
 }
 
 fn show_head(h: Head) {
-    let offset = h.offset;
     print::word(b"head");
     print::number(h.count as u64);
-    print::number(offset.0);
+    print::number(h.offset.0);
 }
 
 fn show_well(records: &[u8], record: Record) {

@@ -1,80 +1,16 @@
 // The five integers: kinds 0 to 4 are U2, S2, U4, S4 and U8.
 use crate::{parse, print};
-use integers::{ReadS2, ReadS4, ReadU2, ReadU4, ReadU8};
+use integers::Integer;
 use slices::Written;
 
-fn read_small(rest: &[u8], strictly: bool) {
-    let got = if strictly {
-        integers::read_u2(rest)
-    } else {
-        integers::read_any_u2(rest)
-    };
-    match got {
-        ReadU2::Value(v, n) => {
-            print::number(v as u64);
+// An integer of a kind: its value, and how many bytes it takes.
+fn read<T: Integer>(rest: &[u8], strictly: bool) {
+    match integers::read::<T>(rest, strictly) {
+        Ok((value, n)) => {
+            print::signed(value);
             print::number(n as u64);
         }
-        ReadU2::Refused(e) => print::refused(e),
-    }
-}
-
-fn read_side(rest: &[u8], strictly: bool) {
-    let got = if strictly {
-        integers::read_s2(rest)
-    } else {
-        integers::read_any_s2(rest)
-    };
-    match got {
-        ReadS2::Value(v, n) => {
-            print::side(v);
-            print::number(n as u64);
-        }
-        ReadS2::Refused(e) => print::refused(e),
-    }
-}
-
-fn read_middle(rest: &[u8], strictly: bool) {
-    let got = if strictly {
-        integers::read_u4(rest)
-    } else {
-        integers::read_any_u4(rest)
-    };
-    match got {
-        ReadU4::Value(v, n) => {
-            print::number(v as u64);
-            print::number(n as u64);
-        }
-        ReadU4::Refused(e) => print::refused(e),
-    }
-}
-
-fn read_place(rest: &[u8], strictly: bool) {
-    let got = if strictly {
-        integers::read_s4(rest)
-    } else {
-        integers::read_any_s4(rest)
-    };
-    match got {
-        ReadS4::Value(v, n) => {
-            print::place(v);
-            print::number(n as u64);
-        }
-        ReadS4::Refused(e) => print::refused(e),
-    }
-}
-
-fn read_wide(rest: &[u8], strictly: bool) {
-    let got = if strictly {
-        integers::read_u8(rest)
-    } else {
-        integers::read_any_u8(rest)
-    };
-    match got {
-        ReadU8::Value(v, n) => {
-            print::number(v);
-            print::number(n as u64);
-        }
-        ReadU8::Refused(e) => print::refused(e),
+        Err(e) => print::refused(e.number()),
     }
 }
 
@@ -86,11 +22,11 @@ pub(crate) fn run_read(body: &[u8], strictly: bool) {
     }
     let rest = &body[1..];
     match body[0] {
-        0 => read_small(rest, strictly),
-        1 => read_side(rest, strictly),
-        2 => read_middle(rest, strictly),
-        3 => read_place(rest, strictly),
-        4 => read_wide(rest, strictly),
+        0 => read::<u16>(rest, strictly),
+        1 => read::<i16>(rest, strictly),
+        2 => read::<u32>(rest, strictly),
+        3 => read::<i32>(rest, strictly),
+        4 => read::<u64>(rest, strictly),
         _ => print::word(b"unknown"),
     }
 }
@@ -105,11 +41,11 @@ pub(crate) fn show(written: Written, out: &[u8]) {
 fn write_kind(out: &mut [u8], kind: u8, minus: u8, high: u32, low: u32) -> Written {
     let half = (low % 65536) as u16;
     match kind {
-        0 => integer_writers::write_u2(out, half),
-        1 => integer_writers::write_s2(out, parse::signed16(minus, half)),
-        2 => integer_writers::write_u4(out, low),
-        3 => integer_writers::write_s4(out, parse::signed32(minus, low)),
-        _ => integer_writers::write_u8(out, parse::joined(high, low)),
+        0 => integer_writers::write(out, half),
+        1 => integer_writers::write(out, parse::signed16(minus, half)),
+        2 => integer_writers::write(out, low),
+        3 => integer_writers::write(out, parse::signed32(minus, low)),
+        _ => integer_writers::write(out, parse::joined(high, low)),
     }
 }
 

@@ -43,7 +43,7 @@ fn run(space: &mut [u8], page: &mut [u8])
     requires { (entry_most ≤ length space.old) × (line_most ≤ length page.old) }
 {
     let mut stand = turns::begin();
-    while stand.number < 0xFFFF_FFFF_FFFF_FFFF {
+    for _ in 1..u64::MAX {
         let turn = turns::next_turn(space, page, stand, LINE_MOST);
         let Turn::Entry(from, to, line) = turn else {
             return;

@@ -60,9 +60,6 @@ pub record Partly (whole rest d₀ d : List ℕ) (at : ℕ) : Type 0 where
   pub long : length d ≡ length d₀
   pub same : laid_at d at rest ≡ laid d₀ whole
 
-pub partly_none : (s d : List ℕ) → length s ≤ length d → Partly s s d d 0
-partly_none s d h = record { count = omega arith; room = h; long = refl; same = refl }
-
 -- all is written
 pub partly-all : {whole d₀ d : List ℕ} {at : ℕ} → Partly whole [] d₀ d at → Put whole at d₀ d
 partly-all {whole} {d₀} {d} {at} p = record { count = omega (arith, p.count); output = sym (laid_none d at) ∙ p.same }

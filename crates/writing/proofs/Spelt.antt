@@ -1,15 +1,14 @@
 -- Records as the fields of a message, one after the other: what a loop over them needs.
 -- Assumes nothing.
-use Prim.Native.Nat.{ℕ, zero, suc, ◌+◌, ◌-◌, ◌*◌, ◌/◌, ◌≤◌, ◌<◌}
+use Prim.Native.Nat.{ℕ, zero, suc, ◌+◌, ◌*◌, ◌/◌, ◌≤◌}
 use mathlib.Core.Path.{◌≡◌, refl}
 use mathlib.Core.Bool.{false}
 use mathlib.Core.List.{List, [], ◌∷◌, ◌++◌, append_assoc, append-nil}
 use native.Mathlib.Nat.{zero-add, suc-add}
-use native.Mathlib.Numerals.{sub-one}
 use native.Mathlib.Omega.{arith}
 use lib.Dec.{lit≤, lit<}
-use lib.ListN.{length, drop, length-append, length-drop}
-use lib.Seq.{drop_at, drop-drop}
+use lib.ListN.{length, drop, length-append}
+use lib.Seq.{drop_at}
 use Rattle.paper.specs.declared.Milliseconds.{Milliseconds}
 use Rattle.digits.specs.Digits.{Bytes}
 use Rattle.formats.specs.Format.{got, Each, write_series}
@@ -38,19 +37,19 @@ unfolding spelt
 spelt-none zero l h = refl
 spelt-none (suc n) l h = absurd (omega (arith, h))
 
--- the record at from on, of n that are left
-pub record Next (n from : ℕ) (l : List ℕ) : Type 0 where
-  pub now : Spells (record_of (drop from l))
-  pub same : spelt n (drop from l) ≡ spelling (record_of (drop from l)) ++ spelt (n - 1) (drop (from + 21) l)
-  pub inside : from + 21 ≤ length l
-  pub others : Spelt (n - 1) (drop (from + 21) l)
+-- the record at the front, where there are k: j are behind it
+pub record Next (k j : ℕ) (l : List ℕ) : Type 0 where
+  pub now : Spells (record_of l)
+  pub same : spelt k l ≡ spelling (record_of l) ++ spelt j (drop 21 l)
+  pub inside : 21 ≤ length l
+  pub others : Spelt j (drop 21 l)
 
-pub next : (n from : ℕ) (l : List ℕ) → 0 < n → from ≤ length l → Spelt n (drop from l) → Next n from l
+pub next : (k j : ℕ) (l : List ℕ) → k ≡ j + 1 → Spelt k l → Next k j l
 unfolding spelt Spelt
-next zero from l h k s = absurd (omega (arith, h))
-next (suc n) from l h k s =
-    let d = drop-drop 21 from l in
-    record { now = s.0; same = rw (sub-one, d); inside = omega (arith, s.1, length-drop from l, k); others = rw (sub-one, ← d) s.2 }
+next zero j l h s = absurd (omega (arith, h))
+next (suc k) j l h s =
+    let n : k ≡ j = omega (arith, h) in
+    record { now = s.0; same = rw n; inside = s.1; others = rw n at s.2 }
 
 -- ---- the records of frames are spelt as the frames are written
 

@@ -2,3 +2,4 @@
 pub mod TouchDraft
 pub mod Spelling
 pub mod Limits
+pub mod Judging

@@ -6,7 +6,7 @@ ghost use Rattle.well_formed.specs.WellFormed.{has};
 ghost use Rattle.message_writers.specs.Put.{Put};
 ghost use Rattle.touch.specs.Touch.{point, contact, optional, optional_of};
 
-use crate::numbers::{put_u2, put_u4};
+use crate::numbers::put;
 use crate::parts::{write_byte, write_number, write_point, write_sides};
 use house::{Contact, Point};
 use spelling::{ORIENTATION, PRESSURE, SIDES};
@@ -47,7 +47,7 @@ fn write_lead(out: &mut [u8], id: u8, present: u8) -> usize
     ensures { Put (byte.write id ++ taken.u2.write present) result out.old out.new }
 {
     let at_present = write_byte(out, id);
-    at_present + put_u2(&mut out[at_present..], present as u16)
+    at_present + put(&mut out[at_present..], present as u16)
 }
 
 // The place and contactFlags.
@@ -56,7 +56,7 @@ fn write_place(out: &mut [u8], place: Point, flags: u8) -> usize
     ensures { Put ((point taken).write place ++ taken.u4.write flags) result out.old out.new }
 {
     let at_flags = write_point(out, place);
-    at_flags + put_u4(&mut out[at_flags..], flags as u32)
+    at_flags + put(&mut out[at_flags..], flags as u32)
 }
 
 // A contact.

@@ -12,12 +12,10 @@ fn records_bytes(records: &[u8], count: usize) -> usize
     ensures { result ≡ length (spelt count records.now) }
 {
     let mut total: usize = 0;
-    let mut from: usize = 0;
-    let mut left = count;
-    while 0 < left {
-        total += spelling::record_bytes(&records[from..]);
-        from += house::RECORD_BYTES;
-        left -= 1;
+    let mut left = records;
+    for _ in 0..count {
+        total += spelling::record_bytes(left);
+        left = &left[house::RECORD_BYTES..];
     }
     total
 }

@@ -5,16 +5,17 @@ ghost use Rattle.fields.specs.Integers.{taken};
 ghost use Rattle.message_writers.specs.Put.{Put};
 ghost use Rattle.messages.specs.Header.{header, header_bytes};
 ghost use Rattle.touch.specs.Touch.{touch_head};
-ghost use Rattle.slices.specs.Writing.{refuse, answered, Writes};
+ghost use Rattle.slices.specs.Writing.{Writes};
 ghost use Rattle.writing.specs.Spelling.{Spelt, body_of};
-ghost use Rattle.recordings.specs.Answer.{counted, counted_got};
+ghost use Rattle.formats.specs.Answer.{whole_of};
+ghost use Rattle.recordings.specs.Answer.{counted};
+ghost use Rattle.writing.specs.Judging.{Judges};
 ghost use Rattle.writing.specs.TouchDraft.{checked_frames, touch_draft};
 
 use crate::lengths::message_bytes;
-use crate::numbers::{put_u2, put_u4};
+use crate::numbers::put;
 use crate::spell::write_records;
-use paper::Milliseconds;
-use recordings::Counted;
+use paper::{Milliseconds, Refusal};
 use slices::Written;
 
 // The greatest encodeTime of a message.
@@ -27,8 +28,8 @@ fn write_touch_head(out: &mut [u8], time: Milliseconds, frames: u8) -> usize
     requires { (time.0 < limit 2 0) × (length ((touch_head taken).write (record { time = time; frames = frames })) ≤ length out.old) }
     ensures { Put ((touch_head taken).write (record { time = time; frames = frames })) result out.old out.new }
 {
-    let at_count = put_u4(out, time.0);
-    at_count + put_u2(&mut out[at_count..], frames as u16)
+    let at_count = put(out, time.0);
+    at_count + put(&mut out[at_count..], frames as u16)
 }
 
 // The body: its head, and then its records.
@@ -57,47 +58,43 @@ fn write_message(
     messages::HEADER_BYTES + write_body(body, time, frames, records, count)
 }
 
-fn refused(refusal: u8) -> Written
-    ensures { result ≡ answered (refuse refusal) }
-{
-    Written {
-        refusal: refusal,
-        bytes: 0,
-    }
-}
-
 // Whether a message holds an encodeTime, and how many frames records are: 10, then 14.
-pub fn check_records(time: Milliseconds, records: &[u8]) -> Counted
-    ensures { counted_got result ≡ counted (checked_frames time records.now) }
+pub fn check_records(time: Milliseconds, records: &[u8]) -> Result<usize, Refusal>
+    ensures { whole_of result ≡ counted (checked_frames time records.now) }
 {
     if TIME_MOST < time.0 {
-        return Counted::Refused(paper::BAD_RANGE);
+        return Err(Refusal::BadRange);
     }
     recordings::count_frames(records)
+}
+
+// How many frames records are, and of how many bytes their message is; or the first fault: 10, 14, 7, 2, 13.
+fn judge(time: Milliseconds, records: &[u8], room: usize) -> Result<(u8, usize), Refusal>
+    ensures { Judges time records.now room result }
+{
+    let frames = check_records(time, records)?;
+    if FRAMES_MOST < frames {
+        return Err(Refusal::BadCount);
+    }
+    let few = frames as u8;
+    let total = message_bytes(time, few, records, records.len() / house::RECORD_BYTES);
+    if messages::MESSAGE_MOST < total {
+        return Err(Refusal::TooLong);
+    }
+    if room < total {
+        return Err(Refusal::NoRoom);
+    }
+    Ok((few, total))
 }
 
 // Writes a touch message of an encodeTime and of records.
 pub fn write_touch(out: &mut [u8], time: Milliseconds, records: &[u8]) -> Written
     ensures { Writes (touch_draft time records.now) result out.old out.new }
 {
-    let got = check_records(time, records);
-    let Counted::Frames(frames) = got else {
-        return refused(got.refusal());
+    let (frames, total) = match judge(time, records, out.len()) {
+        Ok(judged) => judged,
+        Err(e) => return Written::refused(e),
     };
-    if FRAMES_MOST < frames {
-        return refused(paper::BAD_COUNT);
-    }
     let count = records.len() / house::RECORD_BYTES;
-    let few = frames as u8;
-    let total = message_bytes(time, few, records, count);
-    if messages::MESSAGE_MOST < total {
-        return refused(paper::TOO_LONG);
-    }
-    if out.len() < total {
-        return refused(paper::NO_ROOM);
-    }
-    Written {
-        refusal: 0,
-        bytes: write_message(out, total as u32, time, few, records, count),
-    }
+    Written::done(write_message(out, total as u32, time, frames, records, count))
 }

@@ -6,7 +6,7 @@ ghost use Rattle.fields.specs.Integers.{taken};
 ghost use Rattle.message_writers.specs.Put.{Put};
 ghost use Rattle.touch.specs.Touch.{point, sides};
 
-use crate::numbers::{put_s2, put_s4, put_u4};
+use crate::numbers::put;
 use house::{Point, Sides};
 
 // One byte.
@@ -24,7 +24,7 @@ pub(crate) fn write_number(out: &mut [u8], there: bool, value: u32) -> usize
     ensures { Put (cond there (taken.u4.write value) []) result out.old out.new }
 {
     if there {
-        return put_u4(out, value);
+        return put(out, value);
     }
     0
 }
@@ -34,8 +34,8 @@ pub(crate) fn write_point(out: &mut [u8], place: Point) -> usize
     requires { ((point taken).Holds place) × (length ((point taken).write place) ≤ length out.old) }
     ensures { Put ((point taken).write place) result out.old out.new }
 {
-    let at_y = put_s4(out, place.x);
-    at_y + put_s4(&mut out[at_y..], place.y)
+    let at_y = put(out, place.x);
+    at_y + put(&mut out[at_y..], place.y)
 }
 
 // Two sides, one behind the other.
@@ -43,8 +43,8 @@ fn write_two(out: &mut [u8], first: i16, second: i16) -> usize
     requires { (taken.s2.Holds first) × (taken.s2.Holds second) × (length (taken.s2.write first ++ taken.s2.write second) ≤ length out.old) }
     ensures { Put (taken.s2.write first ++ taken.s2.write second) result out.old out.new }
 {
-    let at = put_s2(out, first);
-    at + put_s2(&mut out[at..], second)
+    let at = put(out, first);
+    at + put(&mut out[at..], second)
 }
 
 // left, top, right and bottom.

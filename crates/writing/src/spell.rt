@@ -8,7 +8,7 @@ ghost use Rattle.spelling.specs.Spelling.{spelling};
 ghost use Rattle.writing.specs.Spelling.{Spells, spelt, Spelt};
 
 use crate::contact::write_contact;
-use crate::numbers::{put_u2, put_u8};
+use crate::numbers::put;
 use house::{Head, Record};
 
 // What stands before a frame's contacts: their count and the frame's offset.
@@ -16,8 +16,8 @@ fn write_frame_head(out: &mut [u8], head: Head) -> usize
     requires { ((frame_head taken false).Holds head) × (length ((frame_head taken false).write head) ≤ length out.old) }
     ensures { Put ((frame_head taken false).write head) result out.old out.new }
 {
-    let at_offset = put_u2(out, head.count);
-    at_offset + put_u8(&mut out[at_offset..], head.offset.0)
+    let at_offset = put(out, head.count);
+    at_offset + put(&mut out[at_offset..], head.offset.0)
 }
 
 // The record at the front of what is lent. A refused one, which no caller lends, has no fields.
@@ -38,12 +38,10 @@ pub(crate) fn write_records(out: &mut [u8], records: &[u8], count: usize) -> usi
     ensures { Put (spelt count records.now) result out.old out.new }
 {
     let mut at: usize = 0;
-    let mut from: usize = 0;
-    let mut left = count;
-    while 0 < left {
-        at += write_record(&mut out[at..], &records[from..]);
-        from += house::RECORD_BYTES;
-        left -= 1;
+    let mut left = records;
+    for _ in 0..count {
+        at += write_record(&mut out[at..], left);
+        left = &left[house::RECORD_BYTES..];
     }
     at
 }

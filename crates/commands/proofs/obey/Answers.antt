@@ -1,37 +1,32 @@
 -- `commands::obey` meets its contract: by the first byte.
 -- Assumes nothing.
-use mathlib.Core.Path.{refl}
-use borrow.Author.Tests.{eq-eqb, ne_eqb}
+use mathlib.Core.Path.{refl, sym}
+use native.Mathlib.Omega.{arith}
+use borrow.Author.Tests.{eqb-true}
 use Rattle.slices.proofs.Tails.{tail-is}
 use Rattle.commands.specs.Commands.{command_of}
-use Rattle.commands.proofs.Carried.{command-none}
+use Rattle.commands.proofs.Carried.{command-none, command-other}
 use Rattle.commands.proofs.obey.Goals as goal
 
-pub returns-then-entry-eq0 : goal.returns-then-entry-eq0
-returns-then-entry-eq0 c = rw (command-none _ c.if-entry-eq0.true) (record { answer = c.pass_over.ensures; output = refl })
+pub returns-then-is_empty : goal.returns-then-is_empty
+returns-then-is_empty c = rw (command-none _ (eqb-true _ _ (sym c.if-is_empty.ensures))) (record { answer = c.pass_over.ensures; output = refl })
 
-pub returns-then-kind-eq-ARRIVAL : goal.returns-then-kind-eq-ARRIVAL
+pub returns-in-1 : goal.returns-in-1
 unfolding command_of
-returns-then-kind-eq-ARRIVAL c =
-    let d = c.args.out.now in
-    rw (eq-eqb _ _ c.if-kind-eq-ARRIVAL.true) (rw (tail-is _ 1) at (c.arrive.ensures d))
+returns-in-1 c = let d = c.args.out.now in rw c.in-1.is (rw (tail-is _ 1) at (c.arrive.ensures d))
 
-pub returns-then-kind-eq-READY : goal.returns-then-kind-eq-READY
+pub returns-in-2 : goal.returns-in-2
 unfolding command_of
-returns-then-kind-eq-READY c =
-    rw (ne_eqb _ _ c.if-kind-eq-ARRIVAL.false, eq-eqb _ _ c.if-kind-eq-READY.true) c.declare.ensures
+returns-in-2 c = rw c.in-2.is c.declare.ensures
 
-pub returns-then-kind-eq-TOUCH : goal.returns-then-kind-eq-TOUCH
+pub returns-in-3 : goal.returns-in-3
 unfolding command_of
-returns-then-kind-eq-TOUCH c =
-    rw (ne_eqb _ _ c.if-kind-eq-ARRIVAL.false, ne_eqb _ _ c.if-kind-eq-READY.false, eq-eqb _ _ c.if-kind-eq-TOUCH.true) c.touch.ensures
+returns-in-3 c = rw c.in-3.is c.touch.ensures
 
-pub returns-then-kind-eq-DISMISSAL : goal.returns-then-kind-eq-DISMISSAL
+pub returns-in-6 : goal.returns-in-6
 unfolding command_of
-returns-then-kind-eq-DISMISSAL c =
-    rw (ne_eqb _ _ c.if-kind-eq-ARRIVAL.false, ne_eqb _ _ c.if-kind-eq-READY.false, ne_eqb _ _ c.if-kind-eq-TOUCH.false, eq-eqb _ _ c.if-kind-eq-DISMISSAL.true) c.dismiss.ensures
+returns-in-6 c = rw c.in-6.is c.dismiss.ensures
 
-pub returns : goal.returns
-unfolding command_of
-returns c =
-    rw (ne_eqb _ _ c.if-kind-eq-ARRIVAL.false, ne_eqb _ _ c.if-kind-eq-READY.false, ne_eqb _ _ c.if-kind-eq-TOUCH.false, ne_eqb _ _ c.if-kind-eq-DISMISSAL.false) (record { answer = c.pass_over-2.ensures; output = refl })
+pub returns-in_default : goal.returns-in_default
+returns-in_default c =
+    rw (command-other c.args.entry.now (λ e. omega (arith, e)) (λ e. omega (arith, e)) (λ e. omega (arith, e)) (λ e. omega (arith, e))) (record { answer = c.pass_over-in_default.ensures; output = refl })

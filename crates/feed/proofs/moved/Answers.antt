@@ -5,6 +5,4 @@ use Rattle.feed.proofs.Moving.{moving-next}
 use Rattle.feed.proofs.moved.Goals as goal
 
 pub loop-from-preserved : goal.loop-from-preserved
-loop-from-preserved c =
-    let p = c.before.before in
-    (omega arith, p.loop-from.invariant.1, moving-next _ _ _ _ _ p.loop-from.invariant.2 (omega arith))
+loop-from-preserved c = (omega arith, c.loop-from.invariant.1, moving-next _ _ _ _ _ c.loop-from.invariant.2 (omega arith))

@@ -3,7 +3,7 @@
 use mathlib.Core.Path.{◌≡◌, sym, ap, ◌∙◌}
 use Rattle.well_formed.specs.WellFormed.{well_formed}
 use Rattle.well_formed.proofs.Front.{well-read}
-use Rattle.flat_records.specs.Flat.{flat, flattened}
+use Rattle.flat_records.specs.Flat.{flat, flattened, refused}
 use Rattle.flat_records.proofs.read_flat.Goals as goal
 
 pub returns-then-is_well_formed : goal.returns-then-is_well_formed
@@ -19,4 +19,4 @@ unfolding flat
 returns c =
     let judged : c.is_well_formed.result ≡ well_formed c.args.records.now =
     c.is_well_formed.ensures ∙ well-read _ _ c.read_record-read.ensures in
-    rw (sym judged ∙ c.if-is_well_formed.false) c.refused.ensures
+    rw (sym judged ∙ c.if-is_well_formed.false) (c.refused.ensures ∙ ap refused c.number.ensures)

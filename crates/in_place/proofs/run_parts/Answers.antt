@@ -6,13 +6,13 @@ use Rattle.in_place.proofs.Inside.{entry-inside}
 use Rattle.in_place.proofs.run_parts.Goals as goal
 
 pub overflow_add-start : goal.overflow_add-start
-overflow_add-start c = let i = entry-inside c.args.file.now c.loop-from.from _ c.loop-from.invariant.0 (sym c.read_front-front.ensures ∙ c.in-Entry.is) in omega (arith, i)
+overflow_add-start c = let i = entry-inside c.args.file.now c.loop-from.from _ c.loop-from.invariant.0 (sym c.read_front.ensures ∙ c.in-Some.is) in omega (arith, i)
 
 pub overflow_add-end : goal.overflow_add-end
-overflow_add-end c = let i = entry-inside c.args.file.now c.loop-from.from _ c.loop-from.invariant.0 (sym c.read_front-front.ensures ∙ c.in-Entry.is) in omega (arith, i)
+overflow_add-end c = let i = entry-inside c.args.file.now c.loop-from.from _ c.loop-from.invariant.0 (sym c.read_front.ensures ∙ c.in-Some.is) in omega (arith, i)
 
 pub slice_bounds-message-end : goal.slice_bounds-message-end
-slice_bounds-message-end c = let i = entry-inside c.args.file.now c.loop-from.from _ c.loop-from.invariant.0 (sym c.read_front-front.ensures ∙ c.in-Entry.is) in omega (arith, i)
+slice_bounds-message-end c = let i = entry-inside c.args.file.now c.loop-from.from _ c.loop-from.invariant.0 (sym c.read_front.ensures ∙ c.in-Some.is) in omega (arith, i)
 
 pub add_last-requires : goal.add_last-requires
 add_last-requires c = record { inside = c.loop-from.invariant.2; line = omega (arith, c.requires) }
@@ -21,10 +21,10 @@ pub add_line-at-requires : goal.add_line-at-requires
 add_line-at-requires c = record { inside = c.loop-from.invariant.2; line = omega (arith, c.requires) }
 
 pub overflow_add-number : goal.overflow_add-number
-overflow_add-number c = let i = entry-inside c.args.file.now c.loop-from.from _ c.loop-from.invariant.0 (sym c.read_front-front.ensures ∙ c.in-Entry.is) in omega (arith, i)
+overflow_add-number c = let i = entry-inside c.args.file.now c.loop-from.from _ c.loop-from.invariant.0 (sym c.read_front.ensures ∙ c.in-Some.is) in omega (arith, i)
 
 pub loop-from-smaller : goal.loop-from-smaller
-loop-from-smaller c = let i = entry-inside c.args.file.now c.loop-from.from _ c.loop-from.invariant.0 (sym c.read_front-front.ensures ∙ c.in-Entry.is) in omega (arith, i)
+loop-from-smaller c = let i = entry-inside c.args.file.now c.loop-from.from _ c.loop-from.invariant.0 (sym c.read_front.ensures ∙ c.in-Some.is) in omega (arith, i)
 
 pub loop-from-preserved : goal.loop-from-preserved
-loop-from-preserved c = let i = entry-inside c.args.file.now c.loop-from.from _ c.loop-from.invariant.0 (sym c.read_front-front.ensures ∙ c.in-Entry.is) in (omega (arith, i), omega (arith, i), c.add_line-at.ensures.inside)
+loop-from-preserved c = let i = entry-inside c.args.file.now c.loop-from.from _ c.loop-from.invariant.0 (sym c.read_front.ensures ∙ c.in-Some.is) in (omega (arith, i), omega (arith, i), c.add_line-at.ensures.inside)

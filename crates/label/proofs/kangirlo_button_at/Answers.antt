@@ -1,11 +1,17 @@
-use Rattle.std.proofs.Common.{◌∙◌, sym, ap}
-use mir.Syntax.{w32}
-use mir.Val.{of_z, to_z}
-use Rattle.presses.specs.Buttons.{first_holding}
-use Rattle.label.proofs.Places.{first-place, point-is, record_point}
+-- `label::kangirlo_button_at` meets its contract.
+-- Assumes nothing.
+use Rattle.std.proofs.Common.{◌∙◌, ap, length, rules}
+use Rattle.std.specs.Option.{unwrap_or}
+use borrow.Author.Tests.{tests}
+use Rattle.std.proofs.lemmas.Iterator.{YieldsList-from_slice}
+use Rattle.std.proofs.lemmas.Iterator.Search.{position_from_yields_List}
+use Rattle.house.specs.declared.Point.{Point}
+use Rattle.presses.specs.Buttons.{holds}
+use Rattle.label.proofs.Places.{first-found, record_point}
 use Rattle.label.proofs.kangirlo_button_at.Goals as goal
 
 pub returns : goal.returns
 returns c =
-    first-place c.args.buttons.now (record_point (to_z w32 (of_z w32 c.args.x)) (to_z w32 (of_z w32 c.args.y))) c.loop-at.at c.loop-at.invariant.1 (sym c.passes.ensures ∙ c.loop-at-test.false)
-    ∙ ap (first_holding c.args.buttons.now) (point-is c.args.x c.args.y c.ranges.x c.ranges.y)
+    let p : Point = record_point c.args.x c.args.y in
+    let found = position_from_yields_List (λ b. holds b p) _ _ c.position.result c.position.ensures.ran (YieldsList-from_slice c.args.buttons.now c.iter.ensures.rest) (λ x b q k. search (rules, tests)) in
+    c.unwrap_or.ensures ∙ ap (λ r. unwrap_or r (length c.args.buttons.now)) found ∙ first-found c.args.buttons.now p

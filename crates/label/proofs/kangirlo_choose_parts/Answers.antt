@@ -9,8 +9,8 @@ returns c =
     let hit = hit_in c.args.buttons.now in
     let fits : length c.args.records.now < 2 ^ 64 = omega arith in
     chosen_is hit (record { states = c.args.states.now; pressed = c.args.pressed.now }) c.args.records.now c.args.choices.now c.drive-tried.new.choices c.drive-run.new.choices
-    c.drive-tried.new.states c.drive-tried.new.pressed c.drive-run.new.states c.drive-run.new.pressed c.drive-tried.result c.drive-run.result c.rule-refusal.result c.conclude.result fits
+    c.drive-tried.new.states c.drive-tried.new.pressed c.drive-run.new.states c.drive-run.new.pressed c.drive-tried.result c.drive-run.result c.number_of-refusal.result c.conclude.result fits
     (c.drive-tried.ensures ∙ ap (λ (k : ℕ). driven hit c.args.records.now false (went_to c.args.states.now c.args.pressed.now (begun_at k) c.args.choices.now)) c.counting_from-from.ensures)
-    c.rule-refusal.ensures
+    (c.number_of-refusal.ensures ∙ c.rule.ensures)
     (c.drive-run.ensures ∙ ap (λ (k : ℕ). driven hit c.args.records.now true (went_to c.args.states.now c.args.pressed.now (begun_at k) c.drive-tried.new.choices)) c.writing_from-start.ensures)
     c.conclude.ensures

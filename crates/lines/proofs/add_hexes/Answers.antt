@@ -1,17 +1,15 @@
--- `lines::add_hexes` meets its contract. The invariant: the first i bytes are added.
+-- `lines::add_hexes` meets its contract. The invariant: the bytes before the place are added.
 -- Assumes nothing.
 use native.Mathlib.Numerals.{add-one}
-use native.Mathlib.Omega.{arith}
 use Rattle.lines.specs.Page.{hexes}
 use Rattle.lines.proofs.Adding.{added_none, added_then}
 use Rattle.lines.proofs.Hexes.{hexes-next}
 use Rattle.lines.proofs.add_hexes.Goals as goal
 
-pub loop-i-init : goal.loop-i-init
+pub loop-byte-init : goal.loop-byte-init
 unfolding hexes
-loop-i-init c = (omega arith, added_none _ _)
+loop-byte-init c = added_none _ _
 
-pub loop-i-preserved : goal.loop-i-preserved
-loop-i-preserved c =
-    let l = c.before.before.before.before.before in
-    (omega arith, rw (add-one, hexes-next _ _ l.loop-i-test.true) (added_then l.loop-i.invariant.1 c.add_hex-at.ensures))
+pub loop-byte-preserved : goal.loop-byte-preserved
+loop-byte-preserved c =
+    rw (add-one, hexes-next _ _ c.loop-byte-test.true) (added_then c.loop-byte.invariant c.add_hex-at.ensures)

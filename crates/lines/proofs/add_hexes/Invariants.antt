@@ -1,10 +1,7 @@
-use Prim.Native.Nat.{◌-◌, ◌≤◌}
-use lib.ListN.{length, take}
+use Rattle.std.proofs.Common.{take}
 use Rattle.lines.specs.Page.{Added, hexes}
 use Rattle.lines.proofs.add_hexes.Given as goal
 
-abbrev pub invariant-loop-i : goal.invariant-loop-i
-invariant-loop-i l = (l.i ≤ length l.bytes) × Added (hexes (take l.i l.bytes)) l.place l.at l.initial.page l.page
-
-abbrev pub decreases-loop-i : goal.decreases-loop-i
-decreases-loop-i l = length l.bytes - l.i
+-- the bytes before the place are added
+abbrev pub invariant-loop-byte : goal.invariant-loop-byte
+invariant-loop-byte l = Added (hexes (take l.byte-index l.bytes)) l.place l.at l.initial.page l.page

@@ -10,9 +10,9 @@ pub returns-then-out-lt-RECORD_BYTES : goal.returns-then-out-lt-RECORD_BYTES
 returns-then-out-lt-RECORD_BYTES c =
     let a = c.args in
     let n = length-contact a.kind a.contact in
-    writes-none _ _ _ _ (omega arith) c.no_room.ensures refl
+    writes-none _ _ _ _ (omega arith) c.refused.ensures refl
 
 pub returns : goal.returns
 returns c =
     let n = length-contact c.args.kind c.args.contact in
-    writes_bytes _ _ _ _ (omega arith) (c.written.ensures ∙ rw n) c.fill_contact.ensures
+    writes_bytes _ _ _ _ (omega arith) (c.done.ensures ∙ rw n) c.fill_contact.ensures

@@ -10,9 +10,9 @@ pub returns-then-out-lt-RECORD_BYTES : goal.returns-then-out-lt-RECORD_BYTES
 returns-then-out-lt-RECORD_BYTES c =
     let a = c.args in
     let n = length-head a.head in
-    writes-none _ _ _ _ (omega arith) c.no_room.ensures refl
+    writes-none _ _ _ _ (omega arith) c.refused.ensures refl
 
 pub returns : goal.returns
 returns c =
     let n = length-head c.args.head in
-    writes_bytes _ _ _ _ (omega arith) (c.written.ensures ∙ rw n) c.fill_head.ensures
+    writes_bytes _ _ _ _ (omega arith) (c.done.ensures ∙ rw n) c.fill_head.ensures

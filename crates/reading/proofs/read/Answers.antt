@@ -1,90 +1,43 @@
 -- `reading::read` meets its contract: the message is judged to its last byte, then the room, and only then is anything written.
 -- Assumes nothing.
-use Prim.Native.Nat.{ℕ, ◌*◌, ◌-◌}
+use Prim.Native.Nat.{ℕ, ◌*◌}
 use mathlib.Core.Path.{◌≡◌, refl, sym, ap, ◌∙◌}
-use mathlib.Core.Bool.{Bool}
-use mathlib.Core.List.{List, []}
+use mathlib.Core.List.{[]}
 use native.Mathlib.Omega.{arith}
-use lib.ListN.{length, take, drop}
-use Rattle.formats.specs.Format.{got}
-use Rattle.formats.proofs.Steps.{tail}
+use lib.ListN.{length}
 use Rattle.framing.specs.Frame.{frames_bytes}
-use Rattle.touch.specs.Touch.{touch_record}
 use Rattle.framing.specs.declared.BodyHead.{BodyHead}
+use Rattle.touch.specs.Touch.{touch_record}
 use Rattle.frame_records.specs.Frames.{record_count}
 use Rattle.frame_records.proofs.Laws.{length-frames}
-use Rattle.reading.specs.Passes.{frames, Reads}
 use Rattle.reading.proofs.Answering.{plain-refused, plain-none, plain-read}
 use Rattle.reading.proofs.read.Goals as goal
+use Rattle.reading.proofs.read.Goals.{After-count_records-records}
 
-pub returns-in_default : goal.returns-in_default
-returns-in_default c =
-    let t = c.in_default.is in
-    plain-refused _ _ _ _ _ _ (rw t at c.judge-judged.ensures) (c.refused.ensures ∙ rw (c.refusal.ensures, t)) refl
+-- the records that were counted are those of the frames
+counted : (c : After-count_records-records) → c.count_records-records.result ≡ record_count c.in-Ok.ensures.message.frames
+counted c = c.count_records-records.ensures.same _ [] c.in-Ok.ensures.frames
+
+room : (c : After-count_records-records) → length (frames_bytes touch_record c.in-Ok.ensures.message.frames) ≡ 21 * c.count_records-records.result
+room c = length-frames c.in-Ok.ensures.message.frames ∙ ap (λ (n : ℕ). 21 * n) (sym (counted c))
+
+pub returns-in-Err : goal.returns-in-Err
+returns-in-Err c = plain-refused _ _ _ _ _ _ c.in-Err.ensures c.refused.ensures refl
 
 pub returns-then-output-records : goal.returns-then-output-records
 returns-then-output-records c =
-    let at : ℕ =
-    c.in-Body.at in
-    let lent : List ℕ =
-    c.args.message.now in
-    let head : BodyHead =
-    c.in-Body.head in
-    let form : Bool =
-    c.args.strictly in
-    let accepted : Reads form lent head at =
-    rw c.in-Body.is at c.judge-judged.ensures in
-    let frames-read : (frames head.frames).read (take (length lent - at) (drop at lent)) ≡ got accepted.message.frames [] =
-    rw (tail lent at) accepted.frames in
-    let counted : c.count_records-records.result ≡ record_count accepted.message.frames =
-    c.count_records-records.ensures.same accepted.message.frames [] frames-read in
-    let room : length (frames_bytes touch_record accepted.message.frames) ≡ 21 * c.count_records-records.result =
-    length-frames accepted.message.frames ∙ ap (λ (n : ℕ). 21 * n) (sym counted) in
-    let k = accepted in
-    let n = room in
-    plain-none _ _ _ _ _ k.message k.read (omega arith) c.refused-then-output-records.ensures refl
+    let n = room (goal.at.returns-then-output-records c).After-count_records-records in
+    plain-none _ _ _ _ _ c.in-Ok.ensures.message c.in-Ok.ensures.read (omega arith) c.refused-then-output-records.ensures refl
 
 pub write_frames-requires : goal.write_frames-requires
 write_frames-requires c =
-    let at : ℕ =
-    c.in-Body.at in
-    let lent : List ℕ =
-    c.args.message.now in
-    let head : BodyHead =
-    c.in-Body.head in
-    let form : Bool =
-    c.args.strictly in
-    let accepted : Reads form lent head at =
-    rw c.in-Body.is at c.judge-judged.ensures in
-    let frames-read : (frames head.frames).read (take (length lent - at) (drop at lent)) ≡ got accepted.message.frames [] =
-    rw (tail lent at) accepted.frames in
-    let counted : c.count_records-records.result ≡ record_count accepted.message.frames =
-    c.count_records-records.ensures.same accepted.message.frames [] frames-read in
-    let room : length (frames_bytes touch_record accepted.message.frames) ≡ 21 * c.count_records-records.result =
-    length-frames accepted.message.frames ∙ ap (λ (n : ℕ). 21 * n) (sym counted) in
-    let k = accepted in
-    let n = room in
-    record { whole = k.message.frames; read = frames-read; fits = omega arith }
+    let n = room (goal.at.write_frames-requires c).After-count_records-records in
+    record { whole = c.in-Ok.ensures.message.frames; read = c.in-Ok.ensures.frames; fits = omega arith }
 
 pub returns : goal.returns
 returns c =
-    let at : ℕ =
-    c.in-Body.at in
-    let lent : List ℕ =
-    c.args.message.now in
-    let head : BodyHead =
-    c.in-Body.head in
-    let form : Bool =
-    c.args.strictly in
-    let accepted : Reads form lent head at =
-    rw c.in-Body.is at c.judge-judged.ensures in
-    let frames-read : (frames head.frames).read (take (length lent - at) (drop at lent)) ≡ got accepted.message.frames [] =
-    rw (tail lent at) accepted.frames in
-    let counted : c.count_records-records.result ≡ record_count accepted.message.frames =
-    c.count_records-records.ensures.same accepted.message.frames [] frames-read in
-    let room : length (frames_bytes touch_record accepted.message.frames) ≡ 21 * c.count_records-records.result =
-    length-frames accepted.message.frames ∙ ap (λ (n : ℕ). 21 * n) (sym counted) in
-    let k = accepted in
-    let n = room in
+    let s = (goal.at.returns c).After-count_records-records in
+    let k = c.in-Ok.ensures in
+    let n = room s in
     let t = ap (λ (h : BodyHead). h.time) k.head in
-    plain-read _ _ _ _ _ k.message k.read (omega arith) (λ i. record { refusal = 0; time = t i; records = counted i }) (c.write_frames.ensures k.message.frames [] frames-read)
+    plain-read _ _ _ _ _ k.message k.read (omega arith) (λ i. record { refusal = 0; time = t i; records = counted s i }) (c.write_frames.ensures k.message.frames [] k.frames)

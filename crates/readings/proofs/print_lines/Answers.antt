@@ -1,4 +1,4 @@
--- `readings::print_lines` is safe and ends: the numbers rise to the last. There is room for each line.
+-- `readings::print_lines` is safe. There is room for each line.
 -- Assumes nothing.
 use native.Mathlib.Omega.{arith}
 use Rattle.turns.proofs.Laws.{turn-begins, line-has-room}

@@ -1,4 +1,4 @@
--- `sent::run` is safe and ends: each entry takes one from what is left. There is room for what is written.
+-- `sent::run` is safe. There is room for what is written.
 -- Assumes nothing.
 use native.Mathlib.Omega.{arith}
 use Rattle.commands.specs.Commands.{command_of}

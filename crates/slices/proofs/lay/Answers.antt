@@ -1,28 +1,16 @@
--- `slices::lay` meets its contract. The invariant: the first i bytes of out are the source's, the others as they were.
+-- `slices::lay` meets its contract.
 -- Assumes nothing.
-use mathlib.Core.Path.{◌≡◌, refl, ◌∙◌}
+use Rattle.std.proofs.Common.{refl, ap}
 use mathlib.Core.List.{◌++◌}
-use Prim.Native.Nat.{◌≤◌, ◌-◌}
 use native.Mathlib.Omega.{arith}
-use borrow.Author.Rules.{rules}
-use lib.ListN.{length, drop, take, length-set}
-use Rattle.slices.proofs.Tails.{front-step, front-all}
+use lib.ListN.{length, drop}
 use Rattle.slices.proofs.Laws.{writes_bytes, writes-none}
 use Rattle.slices.proofs.lay.Goals as goal
 
-pub returns-then-out-source : goal.returns-then-out-source
-returns-then-out-source c = writes-none _ _ _ _ c.if-out-source.true refl refl
-
-pub loop-i-preserved : goal.loop-i-preserved
-loop-i-preserved c =
-    let a = c.args in
-    let l = c.loop-i in
-    let step = front-step a.out.now a.source.now l.i (omega arith) (omega arith) in
-    (omega arith, simp length-set (omega arith), simp length-set (omega arith), rw l.invariant.3 step)
+pub returns-then-out-n : goal.returns-then-out-n
+returns-then-out-n c = writes-none _ _ _ _ c.if-out-n.true c.refused.ensures refl
 
 pub returns : goal.returns
 returns c =
     let a = c.args in
-    let l = c.loop-i in
-    let n : length a.source.now ≡ l.i = omega arith in
-    writes_bytes _ _ _ _ (omega arith) (rw n) (l.invariant.3 ∙ front-all a.out.now a.source.now l.i n)
+    writes_bytes a.source.now _ a.out.now _ (omega arith) c.done.ensures (ap (λ front. front ++ drop (length a.source.now) a.out.now) c.copy_from_slice.ensures.after)

@@ -5,7 +5,7 @@ use Rattle.spelling.proofs.Measured.{head-sized}
 use Rattle.spelling.proofs.frame_head_bytes.Goals as goal
 
 pub overflow_add-result : goal.overflow_add-result
-overflow_add-result c = omega (arith, c.u2_bytes.ensures, c.u8_bytes.ensures, (head-sized c.args.head).bound)
+overflow_add-result c = omega (arith, c.bytes.ensures, c.bytes-2.ensures, (head-sized c.args.head).bound)
 
 pub returns : goal.returns
-returns c = omega (arith, c.u2_bytes.ensures, c.u8_bytes.ensures, (head-sized c.args.head).sum)
+returns c = omega (arith, c.bytes.ensures, c.bytes-2.ensures, (head-sized c.args.head).sum)

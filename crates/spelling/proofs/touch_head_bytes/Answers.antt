@@ -7,9 +7,9 @@ use Rattle.spelling.proofs.touch_head_bytes.Goals as goal
 pub overflow_add-result : goal.overflow_add-result
 overflow_add-result c =
     let a = c.args in
-    omega (arith, c.u4_bytes.ensures, c.u2_bytes.ensures, (touch-head-sized (record { time = a.time; frames = a.frames })).bound)
+    omega (arith, c.bytes.ensures, c.bytes-2.ensures, (touch-head-sized (record { time = a.time; frames = a.frames })).bound)
 
 pub returns : goal.returns
 returns c =
     let a = c.args in
-    omega (arith, c.u4_bytes.ensures, c.u2_bytes.ensures, (touch-head-sized (record { time = a.time; frames = a.frames })).sum)
+    omega (arith, c.bytes.ensures, c.bytes-2.ensures, (touch-head-sized (record { time = a.time; frames = a.frames })).sum)

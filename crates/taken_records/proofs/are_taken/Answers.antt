@@ -1,85 +1,57 @@
--- `taken_records::are_taken` meets its contract. The loop keeps: the records still to come are taken, from where it stands, just where all of them are.
+-- `taken_records::are_taken` meets its contract. The loop keeps: the records that are left are taken, from where it stands, just where all of them are.
 -- Assumes nothing.
-use Prim.Native.Nat.{ℕ, ◌+◌, ◌≤◌, ◌<◌}
-use mathlib.Core.Path.{◌≡◌, sym, ap, ◌∙◌}
-use mathlib.Core.Bool.{true}
-use mathlib.Core.List.{List}
-use native.Mathlib.Omega.{arith}
-use lib.ListN.{length, drop, length-drop}
-use lib.Seq.{drop-drop}
+use Rattle.std.proofs.Common.{◌≡◌, ℕ, ◌<◌, ◌≤◌, true, false, List, length, sym, ap, ◌∙◌, arith}
+use Rattle.std.specs.Bool.{◌==◌}
 use Rattle.slices.proofs.Tails.{tail-is}
 use Rattle.house.specs.Layout.{record_of}
-use Rattle.well_formed.specs.WellFormed.{well_formed}
-use Rattle.well_formed.proofs.Front.{well-read, well-long}
+use Rattle.house.specs.declared.Record.{Record}
+use Rattle.well_formed.specs.WellFormed.{well_as}
+use Rattle.well_formed.proofs.Front.{well-long}
 use Rattle.presses.specs.Choosing.{may_stand, due_after, is_legal, states_after}
-use Rattle.taken_records.proofs.Judging.{taken-end, taken-ill, taken-astray, taken-illegal, taken-on}
+use Rattle.taken_records.proofs.Judging.{judged-is, taken-end, taken-ill, taken-astray, taken-illegal, taken-on}
+use Rattle.taken_records.proofs.are_taken.Goals.{then-not-is_well_formed-via-then-not-is_well_formed, then-not-is_well_formed-via-else-not-is_well_formed+then-not-may_stand, then-not-is_well_formed-via-else-not-is_well_formed+else-not-may_stand+then-not-follow}
 use Rattle.taken_records.proofs.are_taken.Goals as goal
+
+some : (l : List ℕ) → false ≡ (length l == 0) → 0 < length l
+some l e = grind (arith, e)
+
+none : (l : List ℕ) → true ≡ (length l == 0) → length l < 1
+none l e = grind (arith, e)
+
+long : (l : List ℕ) (found : Record) → true ≡ well_as l found → found ≡ record_of l → 21 ≤ length l
+long l found e f = well-long l (judged-is l found true e f)
 
 pub returns-then-not-is_well_formed : goal.returns-then-not-is_well_formed
 returns-then-not-is_well_formed c =
-    let l = c.args.records.now in
-    let at = c.loop-at.at in
-    let due = c.loop-at.due in
-    let kept = c.loop-at.kept in
-    let rest : List ℕ = drop at l in
-    let some : 0 < length rest = omega (arith, length-drop at l, c.loop-at-test.true) in
-    let found : c.read_record-found.result ≡ record_of rest = rw (tail-is l at) at c.read_record-found.ensures in
-    let judged : c.is_well_formed.result ≡ well_formed rest = (rw (tail-is l at) at c.is_well_formed.ensures) ∙ well-read rest _ found in
-    sym (taken-ill due kept rest some (sym judged ∙ c.if-not-is_well_formed.true)) ∙ c.loop-at.invariant.1
+    let l = c.loop-left.left.now in
+    let due = c.loop-left.due in
+    let kept = c.loop-left.kept in
+    let found = c.read_record-found.ensures in
+    let h = some l c.loop-left-test.ensures in
+    elim c.then-not-is_well_formed.branch [
+      | then-not-is_well_formed-via-then-not-is_well_formed w ↦ sym (taken-ill due kept l h (judged-is l _ _ w.if-not-is_well_formed.ensures found)) ∙ c.loop-left.invariant
+      | then-not-is_well_formed-via-else-not-is_well_formed+then-not-may_stand w ↦
+          sym (taken-astray due kept l h (judged-is l _ _ w.if-not-is_well_formed.ensures found) (sym (w.if-not-may_stand.ensures ∙ ap (may_stand due) found))) ∙ c.loop-left.invariant
+      | then-not-is_well_formed-via-else-not-is_well_formed+else-not-may_stand+then-not-follow w ↦
+          sym (taken-illegal due kept l h (judged-is l _ _ w.if-not-is_well_formed.ensures found) (sym (w.if-not-may_stand.ensures ∙ ap (may_stand due) found)) (sym (sym w.if-not-follow.true ∙ w.follow.ensures.0 ∙ ap (is_legal kept) found))) ∙ c.loop-left.invariant
+    ]
 
-pub returns-then-not-may_stand : goal.returns-then-not-may_stand
-returns-then-not-may_stand c =
-    let l = c.args.records.now in
-    let at = c.loop-at.at in
-    let due = c.loop-at.due in
-    let kept = c.loop-at.kept in
-    let rest : List ℕ = drop at l in
-    let some : 0 < length rest = omega (arith, length-drop at l, c.loop-at-test.true) in
-    let found : c.read_record-found.result ≡ record_of rest = rw (tail-is l at) at c.read_record-found.ensures in
-    let judged : c.is_well_formed.result ≡ well_formed rest = (rw (tail-is l at) at c.is_well_formed.ensures) ∙ well-read rest _ found in
-    let well : well_formed rest ≡ true = sym judged ∙ c.if-not-is_well_formed.false in
-    let stood : c.may_stand.result ≡ may_stand due (record_of rest) = c.may_stand.ensures ∙ ap (may_stand due) found in
-    sym (taken-astray due kept rest some well (sym stood ∙ c.if-not-may_stand.true)) ∙ c.loop-at.invariant.1
+pub slice_bounds-left-count : goal.slice_bounds-left-count
+slice_bounds-left-count c = long c.loop-left.left.now c.read_record-found.result c.if-not-is_well_formed.ensures c.read_record-found.ensures
 
-pub returns-then-not-follow : goal.returns-then-not-follow
-returns-then-not-follow c =
-    let l = c.args.records.now in
-    let at = c.loop-at.at in
-    let due = c.loop-at.due in
-    let kept = c.loop-at.kept in
-    let rest : List ℕ = drop at l in
-    let some : 0 < length rest = omega (arith, length-drop at l, c.loop-at-test.true) in
-    let found : c.read_record-found.result ≡ record_of rest = rw (tail-is l at) at c.read_record-found.ensures in
-    let judged : c.is_well_formed.result ≡ well_formed rest = (rw (tail-is l at) at c.is_well_formed.ensures) ∙ well-read rest _ found in
-    let well : well_formed rest ≡ true = sym judged ∙ c.if-not-is_well_formed.false in
-    let stood : c.may_stand.result ≡ may_stand due (record_of rest) = c.may_stand.ensures ∙ ap (may_stand due) found in
-    let stands : may_stand due (record_of rest) ≡ true = sym stood ∙ c.if-not-may_stand.false in
-    let followed : c.follow.result ≡ is_legal kept (record_of rest) = c.follow.ensures.0 ∙ ap (is_legal kept) found in
-    sym (taken-illegal due kept rest some well stands (sym followed ∙ c.if-not-follow.true)) ∙ c.loop-at.invariant.1
+pub slice_bounds-left-start : goal.slice_bounds-left-start
+slice_bounds-left-start c = long c.loop-left.left.now c.read_record-found.result c.if-not-is_well_formed.ensures c.read_record-found.ensures
 
-pub loop-at-preserved : goal.loop-at-preserved
-loop-at-preserved c =
-    let l = c.args.records.now in
-    let at = c.loop-at.at in
-    let due = c.loop-at.due in
-    let kept = c.loop-at.kept in
-    let rest : List ℕ = drop at l in
-    let some : 0 < length rest = omega (arith, length-drop at l, c.loop-at-test.true) in
-    let found : c.read_record-found.result ≡ record_of rest = rw (tail-is l at) at c.read_record-found.ensures in
-    let judged : c.is_well_formed.result ≡ well_formed rest = (rw (tail-is l at) at c.is_well_formed.ensures) ∙ well-read rest _ found in
-    let well : well_formed rest ≡ true = sym judged ∙ c.if-not-is_well_formed.false in
-    let stood : c.may_stand.result ≡ may_stand due (record_of rest) = c.may_stand.ensures ∙ ap (may_stand due) found in
-    let stands : may_stand due (record_of rest) ≡ true = sym stood ∙ c.if-not-may_stand.false in
-    let followed : c.follow.result ≡ is_legal kept (record_of rest) = c.follow.ensures.0 ∙ ap (is_legal kept) found in
-    let there : at + 21 ≤ length l = omega (arith, well-long rest well, length-drop at l, c.loop-at.invariant.0) in
-    let n = record_of rest in
-    let g = sym followed ∙ c.if-not-follow.false in
-    let t : c.follow.new.states ≡ states_after kept n = c.follow.ensures.1 ∙ ap (states_after kept) found in
-    let d : c.due_after-due.result ≡ due_after due n = c.due_after-due.ensures ∙ ap (due_after due) found in
-    (there, rw (t, d, ← drop-drop 21 at l) (sym (taken-on due kept rest some well stands g) ∙ c.loop-at.invariant.1))
+pub loop-left-preserved : goal.loop-left-preserved
+loop-left-preserved c =
+    let l = c.loop-left.left.now in
+    let due = c.loop-left.due in
+    let kept = c.loop-left.kept in
+    let found = c.read_record-found.ensures in
+    let stood = sym (c.if-not-may_stand.ensures ∙ ap (may_stand due) found) in
+    let followed = sym (sym c.if-not-follow.false ∙ c.follow.ensures.0 ∙ ap (is_legal kept) found) in
+    rw (tail-is l 21, c.follow.ensures.1 ∙ ap (states_after kept) found, c.due_after-due.ensures ∙ ap (due_after due) found)
+    (sym (taken-on due kept l (some l c.loop-left-test.ensures) (judged-is l _ _ c.if-not-is_well_formed.ensures found) stood followed) ∙ c.loop-left.invariant)
 
 pub returns : goal.returns
-returns c =
-    let l = c.args.records.now in
-    let at = c.loop-at.at in
-    sym (taken-end c.loop-at.due c.loop-at.kept (drop at l) (omega (arith, length-drop at l, c.loop-at-test.false))) ∙ c.loop-at.invariant.1
+returns c = sym (taken-end c.loop-left.due c.loop-left.kept c.loop-left.left.now (none c.loop-left.left.now c.loop-left-test.ensures)) ∙ c.loop-left.invariant

@@ -1,12 +1,10 @@
-use Prim.Native.Nat.{◌-◌, ◌≤◌}
-use mathlib.Core.Path.{◌≡◌}
-use lib.ListN.{length, drop}
+use Rattle.std.proofs.Common.{◌≡◌, length}
 use Rattle.presses.specs.Choosing.{is_taken_from}
 use Rattle.taken_records.proofs.are_taken.Given as goal
 
-abbrev pub invariant-loop-at : goal.invariant-loop-at
-invariant-loop-at l =
-    (l.at ≤ length l.records) × (is_taken_from l.due l.kept (drop l.at l.records) ≡ is_taken_from 0 l.initial.kept l.records)
+-- the records that are left are taken, from where the loop stands, just where all of them are
+abbrev pub invariant-loop-left : goal.invariant-loop-left
+invariant-loop-left l = is_taken_from l.due l.kept l.left ≡ is_taken_from 0 l.fn.states l.records
 
-abbrev pub decreases-loop-at : goal.decreases-loop-at
-decreases-loop-at l = length l.records - l.at
+abbrev pub decreases-loop-left : goal.decreases-loop-left
+decreases-loop-left l = length l.left

@@ -5,7 +5,4 @@ use Rattle.touch_events.proofs.tally.Goals as goal
 
 pub returns : goal.returns
 returns c =
-    let m = c.before.before in
-    let a = m.before.before.before.before.before.before.before.before.before in
-    let u = a.before.before in
-    tallies _ _ _ u.is_untimed-untimed.ensures _ a.active_in-active.ensures (λ i. (u.shared_slice_known-1.given i).fits) _ _ _ _ _ (rw u.requires at m.run_frames-run.ensures)
+    tallies _ _ _ c.is_untimed-untimed.ensures _ c.count_active-active.ensures.0 (λ i. (c.type_inv.frames i).fits) _ _ _ _ _ (rw c.requires at c.run_frames-run.ensures)

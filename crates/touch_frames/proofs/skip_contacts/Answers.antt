@@ -1,33 +1,35 @@
--- `touch_frames::skip_contacts` meets its contract. The loop keeps: what is left, read from at on, ends where the whole ends.
+-- `touch_frames::skip_contacts` meets its contract. The loop keeps: what is still to come, read from left on, ends where the whole ends.
 -- Assumes nothing.
-use Prim.Native.Nat.{◌+◌}
-use mathlib.Core.Path.{sym, ap, ◌∙◌}
-use mathlib.Core.Bool.{false}
+use Prim.Native.Nat.{ℕ, ◌+◌, ◌-◌}
+use mathlib.Core.Path.{◌≡◌, sym, ap, ◌∙◌}
+use mathlib.Core.Bool.{Bool, false}
+use mathlib.Core.List.{List}
 use native.Mathlib.Omega.{arith}
-use Rattle.formats.specs.Answer.{skipped}
-use Rattle.formats.proofs.Steps.{step, stop, Stepped, series-end, series-got, series-bad}
+use borrow.Author.Rules.{rules}
+use Rattle.paper.specs.Refusals.{number}
+use Rattle.house.specs.declared.Contact.{Contact}
+use Rattle.formats.specs.Format.{Got, got, bad}
+use Rattle.formats.specs.Answer.{left_of, skipped}
+use Rattle.formats.proofs.Steps.{series-end, series-got, series-bad}
 use Rattle.fields.specs.Integers.{taken_by}
 use Rattle.touch.specs.Touch.{contact}
 use Rattle.touch_frames.proofs.skip_contacts.Goals as goal
 
-pub returns-in_default : goal.returns-in_default
-returns-in_default c =
-    let t = c.in_default.is in
-    let b = stop (contact (taken_by c.args.strictly)) c.args.rest.now c.loop-left.at _ _ (rw t at c.read_contact-got.ensures) in
-    record {
-      same = rw (c.refusal.ensures, t) (sym (ap skipped (series-bad (λ b. (contact (taken_by c.args.strictly)).read) false c.loop-left.left _ _ c.loop-left-test.true b)) ∙ c.loop-left.invariant.1);
-      inside = omega arith;
-    }
+-- the reading of contacts, as a series takes it
+abbrev by : Bool → Bool → List ℕ → Got Contact
+by strictly b = (contact (taken_by strictly)).read
 
-pub loop-left-preserved : goal.loop-left-preserved
-loop-left-preserved c =
-    let one : Stepped (contact (taken_by c.args.strictly)) c.args.rest.now c.loop-left.at c.in-Value.field-0 (c.loop-left.at + c.in-Value.k) =
-    step (contact (taken_by c.args.strictly)) c.args.rest.now c.loop-left.at _ _ c.loop-left.invariant.0 (rw c.in-Value.is at c.read_contact-got.ensures) in
-    (one.ends, sym (series-got (λ b. (contact (taken_by c.args.strictly)).read) false c.loop-left.left _ _ _ c.loop-left-test.true one.reads) ∙ c.loop-left.invariant.1)
+pub returns-in_err-behind : goal.returns-in_err-behind
+returns-in_err-behind c =
+    let e : left_of c.from_residual.result ≡ bad (number c.in_err-behind.field-0.0) = search rules in
+    let b : by c.args.strictly false c.loop.left.now ≡ bad (number c.in_err-behind.field-0.0) = sym c.in_err-behind.ensures in
+    e ∙ (sym (ap skipped (series-bad (by c.args.strictly) false (c.args.n - c.loop.counter) _ _ (omega (arith, c.loop-test.true)) b)) ∙ c.loop.invariant)
+
+pub loop-preserved : goal.loop-preserved
+loop-preserved c =
+    let b : by c.args.strictly false c.loop.left.now ≡ got c.in_ok-behind.field-0-0 c.in_ok-behind.behind.now = sym c.in_ok-behind.ensures in
+    let n : c.args.n - (c.loop.counter + 1) ≡ c.args.n - c.loop.counter - 1 = omega arith in
+    rw n (sym (series-got (by c.args.strictly) false (c.args.n - c.loop.counter) _ _ _ (omega (arith, c.loop-test.true)) b) ∙ c.loop.invariant)
 
 pub returns : goal.returns
-returns c =
-    record {
-      same = sym (ap skipped (series-end (λ b. (contact (taken_by c.args.strictly)).read) false c.loop-left.left _ c.loop-left-test.false)) ∙ c.loop-left.invariant.1;
-      inside = c.loop-left.invariant.0;
-    }
+returns c = sym (ap skipped (series-end (by c.args.strictly) false (c.args.n - c.loop.counter) c.loop.left.now (omega (arith, c.loop-test.false)))) ∙ c.loop.invariant

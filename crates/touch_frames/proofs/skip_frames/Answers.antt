@@ -1,41 +1,44 @@
--- `touch_frames::skip_frames` meets its contract. The loop keeps: what is left, read from at on, ends where the whole ends.
+-- `touch_frames::skip_frames` meets its contract. The loop keeps: what is still to come, read from left on, ends where the whole ends.
 -- Assumes nothing.
-use Prim.Native.Nat.{◌+◌}
-use mathlib.Core.Path.{sym, ap, ◌∙◌}
+use Prim.Native.Nat.{ℕ, ◌+◌, ◌-◌}
+use mathlib.Core.Path.{◌≡◌, sym, ap, ◌∙◌}
+use mathlib.Core.Bool.{Bool, false, ◌&&◌}
+use mathlib.Core.List.{List}
 use native.Mathlib.Omega.{arith}
-use Rattle.formats.specs.Answer.{skip, skipped}
-use Rattle.formats.proofs.Steps.{step, stop, Stepped, series-end, series-got, series-bad, series-skip}
+use Rattle.std.proofs.Common.{rules, nat_eq}
+use Rattle.paper.specs.Refusals.{number}
+use Rattle.formats.specs.Format.{Got, got, bad, read_series}
+use Rattle.formats.specs.Answer.{left_of, skip, skipped}
+use Rattle.formats.proofs.Steps.{series-end, series-got, series-bad, series-skip}
 use Rattle.fields.specs.Integers.{taken_by}
 use Rattle.touch.specs.Touch.{frame}
 use Rattle.touch_frames.proofs.skip_frames.Goals as goal
 
-pub returns-in_default : goal.returns-in_default
-returns-in_default c =
-    let a = c.args in
-    let t = c.in_default.is in
-    let b = stop (skip (frame (taken_by c.args.strictly) c.loop-left.first)) a.rest.now c.loop-left.at _ _ (rw t at c.skip_frame-got.ensures) in
-    record {
-      same =
-          rw t
-          (sym (ap skipped (series-bad (λ b. (skip (frame (taken_by c.args.strictly) b)).read) c.loop-left.first c.loop-left.left _ _ c.loop-left-test.true b))
-          ∙ c.loop-left.invariant.1
-          ∙ series-skip (λ b. (frame (taken_by c.args.strictly) b).read) a.judged a.n a.rest.now);
-      inside = rw t (omega arith);
-    }
+-- the reading of where frames end, as a series takes it
+abbrev by : Bool → Bool → List ℕ → Got (Unit {0})
+by strictly b = (skip (frame (taken_by strictly) b)).read
 
-pub loop-left-preserved : goal.loop-left-preserved
-loop-left-preserved c =
-    let one : Stepped (skip (frame (taken_by c.args.strictly) c.loop-left.first)) c.args.rest.now c.loop-left.at tt (c.loop-left.at + c.in-At.k) =
-    step (skip (frame (taken_by c.args.strictly) c.loop-left.first)) c.args.rest.now c.loop-left.at _ _ c.loop-left.invariant.0 (rw c.in-At.is at c.skip_frame-got.ensures) in
-    (one.ends, sym (series-got (λ b. (skip (frame (taken_by c.args.strictly) b)).read) c.loop-left.first c.loop-left.left _ _ _ c.loop-left-test.true one.reads) ∙ c.loop-left.invariant.1)
+-- it ends where the frames end
+whole : (strictly judged : Bool) (n : ℕ) (l : List ℕ) (x : Got (Unit {0})) → x ≡ skipped (read_series (by strictly) judged n l) → x ≡ skipped (read_series (λ b. (frame (taken_by strictly) b).read) judged n l)
+whole strictly judged n l x h = h ∙ series-skip (λ b. (frame (taken_by strictly) b).read) judged n l
+
+pub returns-in_err-left : goal.returns-in_err-left
+returns-in_err-left c =
+    let a = c.args in
+    let e : left_of c.from_residual.result ≡ bad (number c.in_err-left.field-0.0) = search rules in
+    let b : by a.strictly (nat_eq c.loop-i.i 0 && a.judged) c.loop-i.left.now ≡ bad (number c.in_err-left.field-0.0) = sym c.in_err-left.ensures in
+    whole a.strictly a.judged a.n a.rest.now _ (e ∙ (sym (ap skipped (series-bad (by a.strictly) _ (a.n - c.loop-i.i) _ _ (omega (arith, c.loop-i-test.true)) b)) ∙ c.loop-i.invariant))
+
+pub loop-i-preserved : goal.loop-i-preserved
+loop-i-preserved c =
+    let a = c.args in
+    let b : by a.strictly (nat_eq c.loop-i.i 0 && a.judged) c.loop-i.left.now ≡ got tt c.in_ok-left.left.now = sym c.in_ok-left.ensures in
+    let n : a.n - (c.loop-i.i + 1) ≡ a.n - c.loop-i.i - 1 = omega arith in
+    let f : nat_eq (c.loop-i.i + 1) 0 ≡ false = search rules in
+    rw (n, f) (sym (series-got (by a.strictly) _ (a.n - c.loop-i.i) _ _ _ (omega (arith, c.loop-i-test.true)) b) ∙ c.loop-i.invariant)
 
 pub returns : goal.returns
 returns c =
     let a = c.args in
-    record {
-      same =
-          sym (ap skipped (series-end (λ b. (skip (frame (taken_by c.args.strictly) b)).read) c.loop-left.first c.loop-left.left _ c.loop-left-test.false))
-          ∙ c.loop-left.invariant.1
-          ∙ series-skip (λ b. (frame (taken_by c.args.strictly) b).read) a.judged a.n a.rest.now;
-      inside = c.loop-left.invariant.0;
-    }
+    whole a.strictly a.judged a.n a.rest.now _
+    (sym (ap skipped (series-end (by a.strictly) (nat_eq c.loop-i.i 0 && a.judged) (a.n - c.loop-i.i) c.loop-i.left.now (omega (arith, c.loop-i-test.false)))) ∙ c.loop-i.invariant)

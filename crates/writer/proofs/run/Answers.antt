@@ -1,14 +1,8 @@
--- `writer::run` is safe and ends: the numbers rise to the last. There is room for each line.
+-- `writer::run` is safe. There is room for each line.
 -- Assumes nothing.
 use native.Mathlib.Omega.{arith}
-use Rattle.turns.proofs.Laws.{rises, turn-begins, line-has-room}
+use Rattle.turns.proofs.Laws.{turn-begins, line-has-room}
 use Rattle.writer.proofs.run.Goals as goal
 
 pub tell-stand-requires : goal.tell-stand-requires
 tell-stand-requires c = omega (arith, line-has-room _ _ _ _ _ _ _ _ (turn-begins _ _ _ _ _ _ _ _ _ c.in-Entry.ensures) (omega arith) (omega (arith, c.requires.1)))
-
-pub loop-stand-smaller : goal.loop-stand-smaller
-loop-stand-smaller c =
-    let e = turn-begins _ _ _ _ _ _ _ _ _ c.in-Entry.ensures in
-    let r = rises _ _ _ e.number c.tell-stand.ensures.number (omega arith) in
-    omega (arith, r)

@@ -1,31 +1,28 @@
--- x is compared, and then y.
+-- x is compared, and then y, each by its bits.
 use mathlib.Core.Path.{◌≡◌, sym, ◌∙◌}
 use mathlib.Core.Bool.{true, false}
-use mir.Syntax.{w32}
-use mir.Facts.{to_z-of_z}
 use native.Mathlib.Omega.{arith}
+use borrow.Author.Tests.{eq-eqb, ne_eqb}
 use lib.IntN.{pos}
 use lib.ListN.{get_or}
 use Rattle.machine.specs.Table.{place_at}
 use Rattle.tables.specs.Same.{same_number}
+use Rattle.contacts.proofs.Signed.{same_bits}
 use Rattle.contacts.proofs.rules.is_stored.Goals as goal
 
-pub returns-then-same_number : goal.returns-then-same_number
+pub returns-then-place-xs : goal.returns-then-place-xs
 unfolding place_at
-returns-then-same_number c =
+returns-then-place-xs c =
     let a = c.args in
-    let px = to_z-of_z {w = w32} {z = a.place.x} (record { sfits = omega arith }) in
-    let qx = to_z-of_z {w = w32} {z = get_or a.xs.now a.id (pos 0)} (record { sfits = omega arith }) in
-    let py = to_z-of_z {w = w32} {z = a.place.y} (record { sfits = omega arith }) in
-    let qy = to_z-of_z {w = w32} {z = get_or a.ys.now a.id (pos 0)} (record { sfits = omega arith }) in
-    let e : same_number a.place.x (get_or a.xs.now a.id (pos 0)) ≡ true = sym (rw (px, qx) at c.same_number.ensures) ∙ c.if-same_number.true in
-    rw e (rw (py, qy) at c.same_number-then-same_number.ensures)
+    let x = same_bits a.place.x (get_or a.xs.now a.id (pos 0)) (record { sfits = omega arith }) (record { sfits = omega arith }) in
+    let y = same_bits a.place.y (get_or a.ys.now a.id (pos 0)) (record { sfits = omega arith }) (record { sfits = omega arith }) in
+    let e : same_number a.place.x (get_or a.xs.now a.id (pos 0)) ≡ true = sym x ∙ eq-eqb _ _ c.if-place-xs.true in
+    y ∙ rw e
 
-pub returns : goal.returns
+pub returns-else-place-xs : goal.returns-else-place-xs
 unfolding place_at
-returns c =
+returns-else-place-xs c =
     let a = c.args in
-    let px = to_z-of_z {w = w32} {z = a.place.x} (record { sfits = omega arith }) in
-    let qx = to_z-of_z {w = w32} {z = get_or a.xs.now a.id (pos 0)} (record { sfits = omega arith }) in
-    let e : same_number a.place.x (get_or a.xs.now a.id (pos 0)) ≡ false = sym (rw (px, qx) at c.same_number.ensures) ∙ c.if-same_number.false in
-    rw e
+    let x = same_bits a.place.x (get_or a.xs.now a.id (pos 0)) (record { sfits = omega arith }) (record { sfits = omega arith }) in
+    let e : same_number a.place.x (get_or a.xs.now a.id (pos 0)) ≡ false = sym x ∙ ne_eqb _ _ c.if-place-xs.false in
+    x ∙ (e ∙ rw e)

@@ -1,7 +1,6 @@
 -- `entries::numbers::join_four` meets its contract.
 -- Assumes nothing.
 use native.Mathlib.Omega.{arith}
-use borrow.Author.Rules.{rules}
 use Rattle.digits.specs.Digits.{joined}
 use Rattle.entries.proofs.numbers.join_four.Goals as goal
 

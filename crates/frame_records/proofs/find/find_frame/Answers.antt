@@ -1,51 +1,21 @@
 -- `frame_records::find::find_frame` meets its contract: a head and as many contacts as it says.
 -- Assumes nothing.
-use Prim.Native.Nat.{ℕ, ◌+◌}
-use mathlib.Core.Path.{sym}
-use mathlib.Core.Bool.{false}
-use mathlib.Core.List.{List}
-use Rattle.formats.specs.Format.{Format, times}
-use Rattle.formats.specs.Answer.{skip}
-use Rattle.formats.proofs.Steps.{step, stop, Stepped}
-use Rattle.fields.specs.Integers.{taken}
-use Rattle.house.specs.declared.Head.{Head}
-use Rattle.touch.specs.Touch.{contact, frame_head}
-use Rattle.touch.proofs.Reading.{first}
-use Rattle.frame_records.proofs.Finding.{headless, unfinished, complete}
+use Rattle.frame_records.proofs.Finding.{read-some, read-none, left-some, left-none, headless, unfinished, complete}
 use Rattle.frame_records.proofs.find.find_frame.Goals as goal
 
-pub returns-in_default : goal.returns-in_default
-returns-in_default c =
-    let w = rw c.in_default.is at c.read_frame_head-got_head.ensures in
-    headless _ _ _ (sym w.same) c.none.ensures
+pub returns-in_err-head : goal.returns-in_err-head
+returns-in_err-head c =
+    let n = read-none _ c.read_frame_head.result c.read_frame_head.ensures c.in_err-head.ensures.value in
+    rw c.from_residual.ensures (n.0, headless c.args.rest.now n.0 n.1)
 
-pub returns-in_default-got_end : goal.returns-in_default-got_end
-returns-in_default-got_end c =
-    let lent : List ℕ =
-    c.args.rest.now in
-    let head : Head =
-    c.in-Value.head in
-    let at : ℕ =
-    c.in-Value.at in
-    let contacts : Format (Unit {0}) =
-    skip (times head.count (contact taken)) in
-    let head_read : Stepped (frame_head taken false) lent 0 head at =
-    first (frame_head taken false) lent _ _ (rw c.in-Value.is at c.read_frame_head-got_head.ensures) in
-    let b = stop contacts lent at _ _ (rw c.in_default-got_end.is at c.skip_contacts-got_end.ensures) in
-    unfinished lent head at head_read.reads _ _ b c.none-in_default-got_end.ensures
+pub returns-in_err-behind : goal.returns-in_err-behind
+returns-in_err-behind c =
+    let h = read-some _ c.read_frame_head.result c.in_ok-head.head c.in_ok-head.contacts c.read_frame_head.ensures c.in_ok-head.ensures.value in
+    let n = left-none _ c.skip_contacts.result c.skip_contacts.ensures c.in_err-behind.ensures.value in
+    rw c.from_residual-in_err-behind.ensures (n.0, unfinished _ _ _ h n.0 n.1)
 
 pub returns : goal.returns
 returns c =
-    let lent : List ℕ =
-    c.args.rest.now in
-    let head : Head =
-    c.in-Value.head in
-    let at : ℕ =
-    c.in-Value.at in
-    let head_read : Stepped (frame_head taken false) lent 0 head at =
-    first (frame_head taken false) lent _ _ (rw c.in-Value.is at c.read_frame_head-got_head.ensures) in
-    let contacts : Format (Unit {0}) =
-    skip (times head.count (contact taken)) in
-    let contacts-read : Stepped contacts lent at tt (at + c.in-At.n) =
-    step contacts lent at _ _ head_read.ends (rw c.in-At.is at c.skip_contacts-got_end.ensures) in
-    complete lent head at head_read.reads _ contacts-read.reads head_read.ends contacts-read.ends
+    let h = read-some _ c.read_frame_head.result c.in_ok-head.head c.in_ok-head.contacts c.read_frame_head.ensures c.in_ok-head.ensures.value in
+    let n = left-some _ c.skip_contacts.result c.in_ok-behind.behind c.skip_contacts.ensures c.in_ok-behind.ensures.value in
+    complete _ _ _ h _ n

@@ -1,18 +1,16 @@
--- `frame_records::write::write_contacts` meets its contract. The loop keeps: what is to come, read from at on and laid from pos on, leaves the
--- output that the whole does.
+-- `frame_records::write::write_contacts` meets its contract. The loop keeps: what is to come, read at the front of what is left and laid from pos
+-- on, leaves the output that the whole does.
 -- Assumes nothing.
-use Rattle.frame_records.proofs.Contacts.{laying-one, laying-none, laying-next, laying-bad, laying-done}
+use mathlib.Core.Path.{sym}
+use native.Mathlib.Omega.{arith}
+use Rattle.frame_records.proofs.Contacts.{laying-next, laying-bad, laying-done}
 use Rattle.frame_records.proofs.write.write_contacts.Goals as goal
 
 pub returns-in_default : goal.returns-in_default
-returns-in_default c =
-    let h = c.loop-left.invariant in
-    laying-bad _ _ _ _ _ _ _ h _ c.loop-left-test.true (laying-none _ _ _ _ _ _ _ h _ c.read_contact-got.ensures _ c.in_default.is)
+returns-in_default c = laying-bad _ _ _ _ _ _ _ c.loop.invariant _ (omega arith) (sym c.in_default.ensures)
 
-pub loop-left-preserved : goal.loop-left-preserved
-loop-left-preserved c =
-    let h = c.loop-left.invariant in
-    laying-next _ _ _ _ _ _ _ h _ _ _ _ c.loop-left-test.true (laying-one _ _ _ _ _ _ _ h _ c.read_contact-got.ensures _ _ c.in-Value.is) c.write_contact.ensures
+pub loop-preserved : goal.loop-preserved
+loop-preserved c = laying-next _ _ _ _ _ _ _ c.loop.invariant _ _ _ _ _ (omega arith) (sym c.in-Ok.ensures) c.write_contact.ensures
 
 pub returns : goal.returns
-returns c = laying-done _ _ _ _ _ _ _ c.loop-left.invariant c.loop-left-test.false
+returns c = laying-done _ _ _ _ _ _ _ c.loop.invariant (omega arith)

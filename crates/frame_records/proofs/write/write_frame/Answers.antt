@@ -1,7 +1,7 @@
 -- `frame_records::write::write_frame` meets its contract: 13 before anything is touched, or the head's record and then those of its contacts.
 -- Assumes nothing.
 use Prim.Native.Nat.{◌+◌}
-use mathlib.Core.Path.{◌≡◌, refl}
+use mathlib.Core.Path.{◌≡◌, refl, ◌∙◌}
 use mathlib.Core.List.{[], ◌++◌}
 use native.Mathlib.Omega.{arith}
 use lib.ListN.{length, length-append}
@@ -14,7 +14,7 @@ use Rattle.frame_records.proofs.Laws.{records-most, frame-behind, writes-frame, 
 use Rattle.frame_records.proofs.write.write_frame.Goals as goal
 
 pub returns-then-out-all : goal.returns-then-out-all
-returns-then-out-all c = writes-no-frame _ _ _ _ _ (omega arith) refl refl
+returns-then-out-all c = writes-no-frame _ _ _ _ _ (omega arith) c.refused.ensures refl
 
 pub returns : goal.returns
 returns c =
@@ -27,4 +27,4 @@ returns c =
     let n : length (head_bytes a.head ++ s) ≡ 21 + length s = simp length-append (omega arith) in
     let d = writes-done _ _ _ _ c.write_head.ensures (omega arith) in
     let o = wrote-second a.out.now _ _ (head_bytes a.head) s 21 k d.output c.write_contacts-more.ensures.output (omega arith) in
-    writes-frame a.head l _ _ _ (omega arith) (rw (b, n, c.write_contacts-more.ensures.count)) (rw b o)
+    writes-frame a.head l _ _ _ (omega arith) (c.done.ensures ∙ rw (b, n, c.write_contacts-more.ensures.count)) (rw b o)

@@ -1,10 +1,7 @@
-use Prim.Native.Nat.{◌+◌, ◌-◌, ◌≤◌}
+use Prim.Native.Nat.{◌+◌, ◌-◌}
 use mathlib.Core.Path.{◌≡◌}
 use Rattle.integers.specs.Integer.{fewest}
 use Rattle.integers.proofs.common.fewest_of.Given as goal
 
 abbrev pub invariant-loop-c : goal.invariant-loop-c
-invariant-loop-c l = (l.c ≤ 7) × (fewest 7 l.tops l.n ≡ l.c + fewest (7 - l.c) l.tops l.v)
-
-abbrev pub decreases-loop-c : goal.decreases-loop-c
-decreases-loop-c l = 7 - l.c
+invariant-loop-c l = fewest 7 l.tops l.n ≡ l.c + fewest (7 - l.c) l.tops l.v

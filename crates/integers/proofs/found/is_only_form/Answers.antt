@@ -1,32 +1,26 @@
--- `integers::found::is_only_form` meets its contract: each return is a case of `only`.
+-- `integers::found::is_only_form` meets its contract: the two tests are those of `only`.
 -- Assumes nothing.
+use Prim.Native.Nat.{ℕ, ◌+◌}
 use mathlib.Core.Path.{◌≡◌}
+use mathlib.Core.Bool.{cond, ◌&&◌}
 use native.Mathlib.Omega.{arith}
-use Rattle.integers.specs.Integer.{fewest, furthest}
+use lib.Dec.{eqb, leb}
+use Rattle.std.proofs.lemmas.Bool.Decides.{nat_tests}
+use Rattle.paper.specs.Refusals.{not_shortest}
+use Rattle.integers.specs.Integer.{fewest, furthest, value, refused, only}
 use Rattle.integers.proofs.Fewest.{fewest-most}
-use Rattle.integers.proofs.Laws.{only-padded, only-minus, only_same}
 use Rattle.integers.proofs.found.is_only_form.Goals as goal
 
-pub overflow_add-fewest_of : goal.overflow_add-fewest_of
-overflow_add-fewest_of c =
-    let few : c.fewest_of.result ≡ fewest furthest c.args.tops c.args.m =
-    rw c.widened.ensures at c.fewest_of.ensures in
+tested : (t s m n : ℕ) → only t (value s m n) ≡ cond (eqb n (fewest furthest t m + 1) && leb s m) (value s m n) (refused not_shortest)
+unfolding only
+tested t s m n = grind (arith, nat_tests)
+
+pub overflow_add-result : goal.overflow_add-result
+overflow_add-result c =
+    let few : c.fewest_of.result ≡ fewest furthest c.args.tops c.args.m = rw c.from.ensures at c.fewest_of.ensures in
     omega (arith, few, fewest-most furthest c.args.tops c.args.m)
-
-pub returns-then-n-fewest_of : goal.returns-then-n-fewest_of
-returns-then-n-fewest_of c =
-    let few : c.fewest_of.result ≡ fewest furthest c.args.tops c.args.m =
-    rw c.widened.ensures at c.fewest_of.ensures in
-    only-padded _ _ _ _ (λ e. omega (arith, few, c.if-n-fewest_of.true))
-
-pub returns-then-m-widened : goal.returns-then-m-widened
-returns-then-m-widened c =
-    let few : c.fewest_of.result ≡ fewest furthest c.args.tops c.args.m =
-    rw c.widened.ensures at c.fewest_of.ensures in
-    only-minus _ _ _ _ (omega (arith, few)) (omega arith)
 
 pub returns : goal.returns
 returns c =
-    let few : c.fewest_of.result ≡ fewest furthest c.args.tops c.args.m =
-    rw c.widened.ensures at c.fewest_of.ensures in
-    only_same _ _ _ _ (omega (arith, few)) (omega arith)
+    let few : c.fewest_of.result ≡ fewest furthest c.args.tops c.args.m = rw c.from.ensures at c.fewest_of.ensures in
+    rw (few, c.from-2.ensures) (tested _ _ _ _)

@@ -46,4 +46,4 @@ returns c =
     let listed : version_listed c.args.settings.version ≡ true =
     sym c.is_version.ensures ∙ c.if-not-is_version.false in
     rw (client-draft c.args.settings flags listed)
-    (message-writes client_ready ready _ _ _ _ _ _ _ c.put_header-at.ensures c.put_ready.ensures (omega arith) c.written.ensures)
+    (message-writes client_ready ready _ _ _ _ _ _ _ c.put_header-at.ensures c.put_ready.ensures (omega arith) c.done.ensures)

@@ -21,4 +21,4 @@ put_one-requires c =
 
 pub returns : goal.returns
 unfolding dismiss_draft
-returns c = message-writes dismiss byte _ _ _ _ _ _ _ c.put_header-at.ensures c.put_one.ensures (omega arith) c.written.ensures
+returns c = message-writes dismiss byte _ _ _ _ _ _ _ c.put_header-at.ensures c.put_one.ensures (omega arith) c.done.ensures

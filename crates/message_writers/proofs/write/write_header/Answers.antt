@@ -14,4 +14,4 @@ pub returns : goal.returns
 unfolding write_little
 returns c =
     let p = c.put_header.ensures in
-    writes_bytes _ _ _ _ (omega arith) (rw p.count at c.written.ensures) p.output
+    writes_bytes _ _ _ _ (omega arith) (rw p.count at c.done.ensures) p.output

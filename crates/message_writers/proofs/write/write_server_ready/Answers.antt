@@ -36,4 +36,4 @@ returns c =
     let listed : version_listed c.args.version ≡ true =
     sym c.is_version.ensures ∙ c.if-not-is_version.false in
     rw (server-draft _ listed)
-    (message-writes server_ready version _ _ _ _ _ _ _ c.put_header-at.ensures c.put_four.ensures (omega arith) c.written.ensures)
+    (message-writes server_ready version _ _ _ _ _ _ _ c.put_header-at.ensures c.put_four.ensures (omega arith) c.done.ensures)

@@ -1,12 +1,10 @@
--- `messages::little::read_two` meets its contract: 5, or the number.
+-- `messages::little::read_two` meets its contract: the number, and the bytes behind it.
 -- Assumes nothing.
 use mathlib.Core.Path.{sym}
 use native.Mathlib.Omega.{arith}
-use Rattle.messages.proofs.Front.{little-short, little-two}
+use Rattle.formats.proofs.Steps.{tail}
+use Rattle.messages.proofs.Front.{little_two}
 use Rattle.messages.proofs.little.read_two.Goals as goal
 
-pub returns-then-rest-lt2 : goal.returns-then-rest-lt2
-returns-then-rest-lt2 c = record { same = sym (little-short 2 _ c.if-rest-lt2.true); inside = omega arith }
-
 pub returns : goal.returns
-returns c = record { same = rw c.two.ensures (sym (little-two _ (omega arith))); inside = omega arith }
+returns c = rw (tail c.args.rest.now 2, c.two.ensures) (sym (little_two c.args.rest.now (omega arith)))

@@ -6,7 +6,7 @@ use Rattle.moves.proofs.records.write_cancel.Goals as goal
 
 pub returns-then-state-eq-OUT : goal.returns-then-state-eq-OUT
 unfolding state_at
-returns-then-state-eq-OUT c = cancels-nothing _ _ _ c.if-state-eq-OUT.true
+returns-then-state-eq-OUT c = cancels-nothing _ _ _ _ c.done.ensures c.if-state-eq-OUT.true
 
 pub returns : goal.returns
 unfolding state_at place_at

@@ -1,4 +1,4 @@
-use Rattle.std.proofs.Common.{List, ℕ, ◌≡◌, ◌++◌, ◌-◌, ◌≤◌, length}
+use Rattle.std.proofs.Common.{List, ℕ, ◌≡◌, ◌++◌, ◌≤◌, length}
 use lib.ListN.{take, drop}
 use Rattle.digits.specs.Digits.{digits}
 use Rattle.packing.proofs.bits.put_behind.Given as goal
@@ -11,6 +11,3 @@ pub record Sent (s₀ : List ℕ) (n bytes : ℕ) (s : List ℕ) (i : ℕ) : Typ
 
 abbrev pub invariant-loop-i : goal.invariant-loop-i
 invariant-loop-i l = Sent l.initial.out l.n l.bytes l.out l.i
-
-abbrev pub decreases-loop-i : goal.decreases-loop-i
-decreases-loop-i l = l.bytes - l.i

@@ -1,72 +1,47 @@
 -- `panel_touch::judging::run_through` meets its contract. The loop keeps: the run is under way, of whatever frames the records are.
 -- Assumes nothing.
-use borrow.Author.Tests.{not-true, not-false}
-use Prim.Native.Nat.{ℕ}
-use mathlib.Core.Path.{◌≡◌}
-use mathlib.Core.List.{List}
+use Prim.Native.Nat.{ℕ, ◌≤◌, ◌<◌}
+use mathlib.Core.Path.{◌≡◌, sym}
+use mathlib.Core.Bool.{true, false}
 use native.Mathlib.Omega.{arith}
-use Rattle.formats.specs.Format.{got}
-use Rattle.formats.proofs.Steps.{tail}
-use Rattle.house.specs.declared.Contact.{Contact}
-use Rattle.framing.specs.Frame.{Frame}
-use Rattle.recordings.specs.Records.{frames_in}
-use Rattle.contacts.specs.Touch.{touch_rules}
+use borrow.Author.Tests.{eqb-true, eqb-false}
+use lib.Dec.{eqb}
 use Rattle.contacts.specs.Ruling.{table_from}
-use Rattle.panel_touch.proofs.Stepping.{never}
-use Rattle.panel_touch.proofs.Running.{Turned, underway-last, begins, stops, goes}
+use Rattle.panel_touch.proofs.Stepping.{untrue}
+use Rattle.panel_touch.proofs.Running.{underway-last, begins, stops, goes}
 use Rattle.panel_touch.proofs.judging.run_through.Goals as goal
 
-pub step-next-requires : goal.step-next-requires
-step-next-requires c =
-    let b = c.requires in
-    rw (tail c.args.records.now c.loop-at.at) (begins _ _ _ _ _ _ _ _ (c.loop-at.invariant.1 b.frames b.after b.read) c.loop-at-test.true)
+-- what is not empty has bytes, and what is empty has none
+some : (n : ℕ) → false ≡ eqb n 0 → 0 < n
+some n e = omega (arith, eqb-false n 0 (sym e))
 
-pub returns-then-not-next : goal.returns-then-not-next
-returns-then-not-next c =
-    let a = c.args in
+none : (n : ℕ) → true ≡ eqb n 0 → n ≤ 0
+none n e = omega (arith, eqb-true n 0 (sym e))
+
+pub step-requires : goal.step-requires
+step-requires c =
+    let b = c.requires in
+    begins _ _ _ _ _ _ _ (c.loop-left.invariant b.frames b.after b.read) (some _ c.loop-left-test.ensures)
+
+pub returns-in_default : goal.returns-in_default
+returns-in_default c =
     record {
-      judged = λ fs rest e.
-          stops (touch_rules a.most) a.records.now _ fs rest _ c.loop-at.at _ (c.loop-at.invariant.1 fs rest e) c.loop-at-test.true _ (tail a.records.now c.loop-at.at) c.step-next.result _ c.step-next.ensures (not-true c.step-next.result.conforms c.if-not-next.true);
-      table = λ fs rest e z. never z;
+      judged = λ fs rest e. stops _ _ _ _ _ _ _ (c.loop-left.invariant fs rest e) (some _ c.loop-left-test.ensures) (table_from c.step.new.states c.step.new.xs c.step.new.ys) c.in_default.ensures;
+      table = λ fs rest e z. untrue z;
     }
 
-pub overflow_add-at : goal.overflow_add-at
-overflow_add-at c =
-    -- what a turn comes to, of whatever frames the records are
-    let turned : let a = c.args in
-    (fs : List (Frame Contact)) (end : List ℕ) → frames_in a.records.now ≡ got fs end
-    → Turned (touch_rules a.most) a.records.now (table_from a.states.now a.xs.now a.ys.now) fs end c.loop-at.at c.step-next.result (table_from c.step-next.new.states c.step-next.new.xs c.step-next.new.ys) =
-    λ fs end e. let a = c.args in
-    goes (touch_rules a.most) a.records.now _ fs end _ c.loop-at.at _ (c.loop-at.invariant.1 fs end e) c.loop-at-test.true _ (tail a.records.now c.loop-at.at) c.step-next.result _ c.step-next.ensures (not-false c.step-next.result.conforms c.if-not-next.false) in
+pub loop-left-smaller : goal.loop-left-smaller
+loop-left-smaller c =
     let b = c.requires in
-    omega (arith, (turned b.frames b.after b.read).inside)
+    (goes _ _ _ _ _ _ _ (c.loop-left.invariant b.frames b.after b.read) (some _ c.loop-left-test.ensures) _ _ c.in-Some.behind c.in-Some.ensures).shorter
 
-pub loop-at-smaller : goal.loop-at-smaller
-loop-at-smaller c =
-    -- what a turn comes to, of whatever frames the records are
-    let turned : let a = c.args in
-    (fs : List (Frame Contact)) (end : List ℕ) → frames_in a.records.now ≡ got fs end
-    → Turned (touch_rules a.most) a.records.now (table_from a.states.now a.xs.now a.ys.now) fs end c.loop-at.at c.step-next.result (table_from c.step-next.new.states c.step-next.new.xs c.step-next.new.ys) =
-    λ fs end e. let a = c.args in
-    goes (touch_rules a.most) a.records.now _ fs end _ c.loop-at.at _ (c.loop-at.invariant.1 fs end e) c.loop-at-test.true _ (tail a.records.now c.loop-at.at) c.step-next.result _ c.step-next.ensures (not-false c.step-next.result.conforms c.if-not-next.false) in
-    let b = c.requires in
-    let t = turned b.frames b.after b.read in
-    omega (arith, t.inside, t.onward)
-
-pub loop-at-preserved : goal.loop-at-preserved
-loop-at-preserved c =
-    -- what a turn comes to, of whatever frames the records are
-    let turned : let a = c.args in
-    (fs : List (Frame Contact)) (end : List ℕ) → frames_in a.records.now ≡ got fs end
-    → Turned (touch_rules a.most) a.records.now (table_from a.states.now a.xs.now a.ys.now) fs end c.loop-at.at c.step-next.result (table_from c.step-next.new.states c.step-next.new.xs c.step-next.new.ys) =
-    λ fs end e. let a = c.args in
-    goes (touch_rules a.most) a.records.now _ fs end _ c.loop-at.at _ (c.loop-at.invariant.1 fs end e) c.loop-at-test.true _ (tail a.records.now c.loop-at.at) c.step-next.result _ c.step-next.ensures (not-false c.step-next.result.conforms c.if-not-next.false) in
-    let b = c.requires in
-    ((turned b.frames b.after b.read).inside, λ fs end e. (turned fs end e).under)
+pub loop-left-preserved : goal.loop-left-preserved
+loop-left-preserved c fs end e =
+    (goes _ _ _ _ _ _ _ (c.loop-left.invariant fs end e) (some _ c.loop-left-test.ensures) _ _ c.in-Some.behind c.in-Some.ensures).under
 
 pub returns : goal.returns
 returns c =
     record {
-      judged = λ fs rest e. (underway-last _ _ _ fs rest _ _ _ (c.loop-at.invariant.1 fs rest e) c.loop-at-test.false).0;
-      table = λ fs rest e z. (underway-last _ _ _ fs rest _ _ _ (c.loop-at.invariant.1 fs rest e) c.loop-at-test.false).1;
+      judged = λ fs rest e. (underway-last _ _ _ _ _ _ _ (c.loop-left.invariant fs rest e) (none _ c.loop-left-test.ensures)).0;
+      table = λ fs rest e z. (underway-last _ _ _ _ _ _ _ (c.loop-left.invariant fs rest e) (none _ c.loop-left-test.ensures)).1;
     }

@@ -1,4 +1,4 @@
-use Prim.Native.Nat.{ℕ, ◌-◌, ◌≤◌}
+use Prim.Native.Nat.{ℕ}
 use mathlib.Core.Path.{◌≡◌}
 use mathlib.Core.List.{List}
 use lib.ListN.{length}
@@ -11,11 +11,10 @@ use Rattle.contacts.specs.Ruling.{table_from}
 use Rattle.panel_touch.proofs.Running.{Underway}
 use Rattle.panel_touch.proofs.judging.run_through.Given as goal
 
-abbrev pub invariant-loop-at : goal.invariant-loop-at
-invariant-loop-at l =
-    (l.at ≤ length l.records)
-    × ((fs : List (Frame Contact)) (end : List ℕ) → frames_in l.records ≡ got fs end
-    → Underway (touch_rules l.most) l.records (table_from l.initial.states l.initial.xs l.initial.ys) fs end l.active l.at (table_from l.states l.xs l.ys))
+abbrev pub invariant-loop-left : goal.invariant-loop-left
+invariant-loop-left l =
+    (fs : List (Frame Contact)) (end : List ℕ) → frames_in l.records ≡ got fs end
+    → Underway (touch_rules l.most) (table_from l.initial.states l.initial.xs l.initial.ys) fs end l.active l.left (table_from l.states l.xs l.ys)
 
-abbrev pub decreases-loop-at : goal.decreases-loop-at
-decreases-loop-at l = length l.records - l.at
+abbrev pub decreases-loop-left : goal.decreases-loop-left
+decreases-loop-left l = length l.left

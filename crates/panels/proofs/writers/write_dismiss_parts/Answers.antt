@@ -14,14 +14,14 @@ pub returns-then-marks-eq0 : goal.returns-then-marks-eq0
 returns-then-marks-eq0 c =
     let lent : Panel =
     panel_of_parts c.args.marks (table_from c.args.states.now c.args.xs.now c.args.ys.now) in
-    sends-refused _ _ _ _ _ (dismiss-early lent c.args.id (eq-eqb _ _ c.if-marks-eq0.true)) _ _ refl c.refuse.ensures
+    sends-refused _ _ _ _ _ (dismiss-early lent c.args.id (eq-eqb _ _ c.if-marks-eq0.true)) _ _ refl (rw c.number.ensures at c.refuse.ensures)
 
 pub returns-then-states-id-ne-HOVERING : goal.returns-then-states-id-ne-HOVERING
 unfolding state_at
 returns-then-states-id-ne-HOVERING c =
     let lent : Panel =
     panel_of_parts c.args.marks (table_from c.args.states.now c.args.xs.now c.args.ys.now) in
-    sends-refused _ _ _ _ _ (dismiss-illegal lent c.args.id (ne_eqb _ _ c.if-marks-eq0.false) c.if-states-id-ne-HOVERING.true) _ _ refl c.refuse-then-states-id-ne-HOVERING.ensures
+    sends-refused _ _ _ _ _ (dismiss-illegal lent c.args.id (ne_eqb _ _ c.if-marks-eq0.false) c.if-states-id-ne-HOVERING.true) _ _ refl (rw c.number-then-states-id-ne-HOVERING.ensures at c.refuse-then-states-id-ne-HOVERING.ensures)
 
 pub returns-then-written-ne0 : goal.returns-then-written-ne0
 unfolding state_at

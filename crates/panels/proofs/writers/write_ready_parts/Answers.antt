@@ -9,7 +9,7 @@ use Rattle.panels.proofs.writers.write_ready_parts.Goals as goal
 pub returns-then-not-may_declare : goal.returns-then-not-may_declare
 returns-then-not-may_declare c t =
     let no = ready-early (panel_of_parts c.args.marks t) _ (sym c.may_declare.ensures ∙ c.if-not-may_declare.true) in
-    sends-refused _ t _ _ _ no _ _ refl c.refuse.ensures
+    sends-refused _ t _ _ _ no _ _ refl (rw c.number.ensures at c.refuse.ensures)
 
 pub returns-then-written-ne0 : goal.returns-then-written-ne0
 returns-then-written-ne0 c t =

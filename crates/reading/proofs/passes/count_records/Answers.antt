@@ -2,19 +2,19 @@
 -- frame has more than 65,535 contacts.
 -- Assumes nothing.
 use native.Mathlib.Omega.{arith}
-use Rattle.frame_records.proofs.Finding.{Inside, inside}
-use Rattle.reading.proofs.Counting.{counting-next, counting-done}
+use Rattle.reading.proofs.Counting.{counting-first, counting-next, counting-none, counting-done}
 use Rattle.reading.proofs.passes.count_records.Goals as goal
 
-pub loop-left-preserved : goal.loop-left-preserved
-loop-left-preserved c =
-    let within :
-    Inside c.args.frames.now c.loop-left.at c.find_frame-found.result c.find_frame-found.ensures =
-    inside c.args.frames.now c.loop-left.at c.find_frame-found.result c.find_frame-found.ensures c.loop-left.invariant.0 in (
-      within.ends,
-      omega arith,
-      λ fs t e. counting-next _ fs t _ _ _ (c.loop-left.invariant.2 fs t e) c.find_frame-found.result c.loop-left-test.true c.find_frame-found.ensures,
-    )
+pub loop-init : goal.loop-init
+loop-init c = (omega arith, λ fs t e. counting-first fs t _ _ _ (omega arith) e)
+
+pub returns-in_default : goal.returns-in_default
+returns-in_default c =
+    record { same = λ fs t e. counting-none fs t _ _ _ (c.loop.invariant.1 fs t e) (omega arith) c.in_default.ensures; most = omega (arith, c.loop.invariant.0) }
+
+pub loop-preserved : goal.loop-preserved
+loop-preserved c =
+    (omega (arith, c.loop.invariant.0), λ fs t e. counting-next fs t _ _ _ (c.loop.invariant.1 fs t e) c.in-Some.head c.in-Some.field-0-1 c.in-Some.behind _ (omega arith) c.in-Some.ensures)
 
 pub returns : goal.returns
-returns c = record { same = λ fs t e. counting-done _ fs t _ _ _ (c.loop-left.invariant.2 fs t e) c.loop-left-test.false; most = omega arith }
+returns c = record { same = λ fs t e. counting-done fs t _ _ _ (c.loop.invariant.1 fs t e) (omega arith); most = omega (arith, c.loop.invariant.0) }

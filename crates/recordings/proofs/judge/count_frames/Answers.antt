@@ -1,53 +1,34 @@
 -- `recordings::judge::count_frames` meets its contract. The loop keeps: the frames counted and those still to come are all of them.
 -- Assumes nothing.
-use Prim.Native.Nat.{◌<◌, ◌+◌}
+use Prim.Native.Nat.{ℕ, ◌<◌}
 use mathlib.Core.Path.{◌≡◌, sym, ◌∙◌}
+use mathlib.Core.Bool.{false}
 use native.Mathlib.Omega.{arith}
-use lib.ListN.{length, drop, length-drop}
-use Rattle.formats.specs.Answer.{skip}
-use Rattle.formats.proofs.Steps.{step, stop, Stepped}
-use Rattle.recordings.specs.Records.{frame_records, frames_in}
-use Rattle.recordings.proofs.Judged.{tally, count-more, count-stop, tally-end}
+use borrow.Author.Tests.{eqb-true, eqb-false}
+use lib.Dec.{eqb}
+use Rattle.std.proofs.lemmas.Result.{err_from_is_err_and}
+use Rattle.recordings.proofs.Judged.{count-more, count-stop, tally-end}
 use Rattle.recordings.proofs.judge.count_frames.Goals as goal
 
-pub returns-in_default : goal.returns-in_default
-returns-in_default c =
-    let some : 0 < length (drop c.loop-at.at c.args.records.now) =
-    omega (arith, length-drop c.loop-at.at c.args.records.now, c.loop-at-test.true) in
-    let l = c.args.records.now in
-    let t = c.in_default.is in
-    let b = stop (skip frame_records) l c.loop-at.at _ _ (rw t at c.skip_frame-got.ensures) in
-    rw (c.refusal.ensures, t) (sym (count-stop c.loop-at.frames (drop c.loop-at.at l) _ some b) ∙ c.loop-at.invariant.2)
+-- what is not empty has bytes
+some : (n : ℕ) → false ≡ eqb n 0 → 0 < n
+some n e = omega (arith, eqb-false n 0 (sym e))
 
-pub loop-at-smaller : goal.loop-at-smaller
-loop-at-smaller c =
-    let one : Stepped (skip frame_records) c.args.records.now c.loop-at.at tt (c.loop-at.at + c.in-At.n) =
-    step (skip frame_records) c.args.records.now c.loop-at.at _ _ c.loop-at.invariant.0 (rw c.in-At.is at c.skip_frame-got.ensures) in
-    let some : 0 < length (drop c.loop-at.at c.args.records.now) =
-    omega (arith, length-drop c.loop-at.at c.args.records.now, c.loop-at-test.true) in
-    let grown : let l = c.args.records.now in let n = c.loop-at.at + c.in-At.n in
-    (c.loop-at.at < n) × (tally c.loop-at.frames (frames_in (drop c.loop-at.at l)) ≡ tally (c.loop-at.frames + 1) (frames_in (drop n l))) =
-    let l = c.args.records.now in
-    let n = c.loop-at.at + c.in-At.n in
-    let m = count-more c.loop-at.frames (drop c.loop-at.at l) (drop n l) some one.reads in
-    (omega (arith, m.0, length-drop c.loop-at.at l, length-drop n l, one.ends), m.1) in
-    omega (arith, one.ends, grown.0)
+pub returns-in_err-left : goal.returns-in_err-left
+returns-in_err-left c =
+    let b = count-stop c.loop-left.frames c.loop-left.left.now _ (some _ c.loop-left-test.ensures) (sym c.in_err-left.ensures) in
+    let p = err_from_is_err_and c.from_residual.result c.from_residual.ensures.1 in
+    rw (p.1, p.2) (sym b ∙ c.loop-left.invariant.1)
 
-pub loop-at-preserved : goal.loop-at-preserved
-loop-at-preserved c =
-    let one : Stepped (skip frame_records) c.args.records.now c.loop-at.at tt (c.loop-at.at + c.in-At.n) =
-    step (skip frame_records) c.args.records.now c.loop-at.at _ _ c.loop-at.invariant.0 (rw c.in-At.is at c.skip_frame-got.ensures) in
-    let some : 0 < length (drop c.loop-at.at c.args.records.now) =
-    omega (arith, length-drop c.loop-at.at c.args.records.now, c.loop-at-test.true) in
-    let grown : let l = c.args.records.now in let n = c.loop-at.at + c.in-At.n in
-    (c.loop-at.at < n) × (tally c.loop-at.frames (frames_in (drop c.loop-at.at l)) ≡ tally (c.loop-at.frames + 1) (frames_in (drop n l))) =
-    let l = c.args.records.now in
-    let n = c.loop-at.at + c.in-At.n in
-    let m = count-more c.loop-at.frames (drop c.loop-at.at l) (drop n l) some one.reads in
-    (omega (arith, m.0, length-drop c.loop-at.at l, length-drop n l, one.ends), m.1) in
-    (one.ends, omega (arith, c.loop-at.invariant.1, grown.0), sym grown.1 ∙ c.loop-at.invariant.2)
+pub loop-left-smaller : goal.loop-left-smaller
+loop-left-smaller c = (count-more c.loop-left.frames c.loop-left.left.now _ (some _ c.loop-left-test.ensures) (sym c.in_ok-left.ensures)).0
+
+pub loop-left-preserved : goal.loop-left-preserved
+loop-left-preserved c =
+    let m = count-more c.loop-left.frames c.loop-left.left.now _ (some _ c.loop-left-test.ensures) (sym c.in_ok-left.ensures) in
+    (omega (arith, m.0, c.loop-left.invariant.0), sym m.1 ∙ c.loop-left.invariant.1)
 
 pub returns : goal.returns
 returns c =
-    let l = c.args.records.now in
-    sym (tally-end c.loop-at.frames (drop c.loop-at.at l) (omega (arith, length-drop c.loop-at.at l, c.loop-at-test.false))) ∙ c.loop-at.invariant.2
+    let none = eqb-true _ _ (sym c.loop-left-test.ensures) in
+    sym (tally-end c.loop-left.frames c.loop-left.left.now (omega (arith, none))) ∙ c.loop-left.invariant.1

@@ -1,14 +1,13 @@
-use Prim.Native.Nat.{◌≤◌, ◌-◌}
+use Prim.Native.Nat.{◌+◌, ◌≤◌}
 use mathlib.Core.Path.{◌≡◌}
-use lib.ListN.{length, drop}
+use lib.ListN.{length}
 use Rattle.recordings.specs.Records.{frames_in}
 use Rattle.recordings.specs.Answer.{counted}
 use Rattle.recordings.proofs.Judged.{tally}
 use Rattle.recordings.proofs.judge.count_frames.Given as goal
 
-abbrev pub invariant-loop-at : goal.invariant-loop-at
-invariant-loop-at l =
-    (l.at ≤ length l.records) × (l.frames ≤ l.at) × (tally l.frames (frames_in (drop l.at l.records)) ≡ counted (frames_in l.records))
+abbrev pub invariant-loop-left : goal.invariant-loop-left
+invariant-loop-left l = (l.frames + length l.left ≤ length l.records) × (tally l.frames (frames_in l.left) ≡ counted (frames_in l.records))
 
-abbrev pub decreases-loop-at : goal.decreases-loop-at
-decreases-loop-at l = length l.records - l.at
+abbrev pub decreases-loop-left : goal.decreases-loop-left
+decreases-loop-left l = length l.left

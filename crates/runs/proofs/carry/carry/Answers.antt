@@ -14,7 +14,7 @@ use Rattle.frame_records.specs.Frames.{records_read}
 use Rattle.frame_records.proofs.Laws.{records-most}
 use Rattle.runs.proofs.Laying.{lays-frame, lays-nothing}
 use Rattle.runs.proofs.carry.carry.Goals as goal
-use Rattle.runs.proofs.carry.carry.Goals.{then-wet+else-count-out, else-wet}
+use Rattle.runs.proofs.carry.carry.Goals.{else-wet-via-then-wet+else-count-out, else-wet-via-else-wet}
 
 pub returns-then-count-out : goal.returns-then-count-out
 returns-then-count-out c =
@@ -33,8 +33,8 @@ returns c =
     let a = c.args in
     record {
       table = c.apply.ensures;
-      output = elim c.if-wet.branch [
-        | then-wet+else-count-out w ↦ lays-nothing a.wet a.head a.rest.now a.out.now (inl (w.if-wet.true, w.if-count-out.false))
-        | else-wet w ↦ lays-nothing a.wet a.head a.rest.now a.out.now (inr w.if-wet.false)
+      output = elim c.else-wet.branch [
+        | else-wet-via-then-wet+else-count-out w ↦ lays-nothing a.wet a.head a.rest.now a.out.now (inl (w.if-wet.true, w.if-count-out.false))
+        | else-wet-via-else-wet w ↦ lays-nothing a.wet a.head a.rest.now a.out.now (inr w.if-wet.false)
       ];
     }

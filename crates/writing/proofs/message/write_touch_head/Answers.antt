@@ -10,22 +10,22 @@ use Rattle.message_writers.proofs.Writing.{Room}
 use Rattle.writing.proofs.Putting.{Parted, first-room, next-room, put_both}
 use Rattle.writing.proofs.message.write_touch_head.Goals as goal
 
-pub put_u4-at_count-requires : goal.put_u4-at_count-requires
+pub put-at_count-requires : goal.put-at_count-requires
 unfolding body_head_format
-put_u4-at_count-requires c =
+put-at_count-requires c =
     let parted : let a = c.args in
     Parted (taken.u4.write a.time.0) (taken.u2.write a.frames) ((touch_head taken).write (record { time = a.time; frames = a.frames })) a.out.now =
     record { same = rw append-nil; room = c.requires.1 } in
     (c.requires.0, first-room parted)
 
-pub put_u2-requires : goal.put_u2-requires
+pub put-requires : goal.put-requires
 unfolding body_head_format
-put_u2-requires c =
+put-requires c =
     let parted : let a = c.args in
     Parted (taken.u4.write a.time.0) (taken.u2.write a.frames) ((touch_head taken).write (record { time = a.time; frames = a.frames })) a.out.now =
     record { same = rw append-nil; room = c.requires.1 } in
-    let after : Room c.put_u4-at_count.new.out c.put_u4-at_count.result (length (taken.u2.write c.args.frames)) =
-    next-room parted c.put_u4-at_count.ensures in
+    let after : Room c.put-at_count.new.out c.put-at_count.result (length (taken.u2.write c.args.frames)) =
+    next-room parted c.put-at_count.ensures in
     (omega arith, after.next)
 
 pub returns : goal.returns
@@ -34,4 +34,4 @@ returns c =
     let parted : let a = c.args in
     Parted (taken.u4.write a.time.0) (taken.u2.write a.frames) ((touch_head taken).write (record { time = a.time; frames = a.frames })) a.out.now =
     record { same = rw append-nil; room = c.requires.1 } in
-    put_both parted c.put_u4-at_count.ensures c.put_u2.ensures
+    put_both parted c.put-at_count.ensures c.put.ensures

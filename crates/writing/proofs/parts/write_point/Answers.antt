@@ -15,27 +15,27 @@ use Rattle.message_writers.proofs.Writing.{Room}
 use Rattle.writing.proofs.Putting.{Parted, first-room, next-room, put_both}
 use Rattle.writing.proofs.parts.write_point.Goals as goal
 
-pub put_s4-at_y-requires : goal.put_s4-at_y-requires
+pub put-at_y-requires : goal.put-at_y-requires
 unfolding point
-put_s4-at_y-requires c =
+put-at_y-requires c =
     let parted : let a = c.args in Parted (taken.s4.write a.place.x) (taken.s4.write a.place.y) ((point taken).write a.place) a.out.now =
     record { same = rw append-nil; room = c.requires.1 } in
     let fit-x : SFits w32 c.args.place.x =
     record { sfits = c.type_inv.place.0.1 } in
     rw (to_z-of_z fit-x) (c.requires.0.0, first-room parted)
 
-pub put_s4-requires : goal.put_s4-requires
+pub put-requires : goal.put-requires
 unfolding point
-put_s4-requires c =
+put-requires c =
     let fit-y : SFits w32 c.args.place.y =
     record { sfits = c.type_inv.place.1.0.1 } in
     let parted : let a = c.args in Parted (taken.s4.write a.place.x) (taken.s4.write a.place.y) ((point taken).write a.place) a.out.now =
     record { same = rw append-nil; room = c.requires.1 } in
     let fit-x : SFits w32 c.args.place.x =
     record { sfits = c.type_inv.place.0.1 } in
-    let put-x : let a = c.args in Put (taken.s4.write a.place.x) c.put_s4-at_y.result a.out.now c.put_s4-at_y.new.out =
-    rw (to_z-of_z fit-x) at c.put_s4-at_y.ensures in
-    let after : Room c.put_s4-at_y.new.out c.put_s4-at_y.result (length (taken.s4.write c.args.place.y)) =
+    let put-x : let a = c.args in Put (taken.s4.write a.place.x) c.put-at_y.result a.out.now c.put-at_y.new.out =
+    rw (to_z-of_z fit-x) at c.put-at_y.ensures in
+    let after : Room c.put-at_y.new.out c.put-at_y.result (length (taken.s4.write c.args.place.y)) =
     next-room parted put-x in
     rw (to_z-of_z fit-y) (c.requires.0.1.0, after.next)
 
@@ -46,11 +46,11 @@ returns c =
     record { same = rw append-nil; room = c.requires.1 } in
     let fit-x : SFits w32 c.args.place.x =
     record { sfits = omega arith } in
-    let put-x : let a = c.args in Put (taken.s4.write a.place.x) c.put_s4-at_y.result a.out.now c.put_s4-at_y.new.out =
-    rw (to_z-of_z fit-x) at c.put_s4-at_y.ensures in
+    let put-x : let a = c.args in Put (taken.s4.write a.place.x) c.put-at_y.result a.out.now c.put-at_y.new.out =
+    rw (to_z-of_z fit-x) at c.put-at_y.ensures in
     let fit-y : SFits w32 c.args.place.y =
     record { sfits = omega arith } in
-    let put-y : let x = c.put_s4-at_y in
-    Put (taken.s4.write c.args.place.y) c.put_s4.result (mid_of x.result (length x.new.out - x.result) x.new.out) c.put_s4.new.out =
-    rw (to_z-of_z fit-y) at c.put_s4.ensures in
+    let put-y : let x = c.put-at_y in
+    Put (taken.s4.write c.args.place.y) c.put.result (mid_of x.result (length x.new.out - x.result) x.new.out) c.put.new.out =
+    rw (to_z-of_z fit-y) at c.put.ensures in
     put_both parted put-x put-y

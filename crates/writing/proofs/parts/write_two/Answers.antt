@@ -15,9 +15,9 @@ pub returns : goal.returns
 returns c =
     let parted : let a = c.args in Parted (taken.s2.write a.first) (taken.s2.write a.second) (taken.s2.write a.first ++ taken.s2.write a.second) a.out.now =
     record { same = refl; room = c.requires.2 } in
-    let one : let a = c.args in Put (taken.s2.write a.first) c.put_s2-at.result a.out.now c.put_s2-at.new.out =
-    rw (to_z-of_z c.ranges.first) at c.put_s2-at.ensures in
-    let two : let x = c.put_s2-at in
-    Put (taken.s2.write c.args.second) c.put_s2.result (mid_of x.result (length x.new.out - x.result) x.new.out) c.put_s2.new.out =
-    rw (to_z-of_z c.ranges.second) at c.put_s2.ensures in
+    let one : let a = c.args in Put (taken.s2.write a.first) c.put-at.result a.out.now c.put-at.new.out =
+    rw (to_z-of_z c.ranges.first) at c.put-at.ensures in
+    let two : let x = c.put-at in
+    Put (taken.s2.write c.args.second) c.put.result (mid_of x.result (length x.new.out - x.result) x.new.out) c.put.new.out =
+    rw (to_z-of_z c.ranges.second) at c.put.ensures in
     put_both parted one two

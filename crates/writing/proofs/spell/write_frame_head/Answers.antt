@@ -10,20 +10,20 @@ use Rattle.message_writers.proofs.Writing.{Room}
 use Rattle.writing.proofs.Putting.{Parted, first-room, next-room, put_both}
 use Rattle.writing.proofs.spell.write_frame_head.Goals as goal
 
-pub put_u2-at_offset-requires : goal.put_u2-at_offset-requires
+pub put-at_offset-requires : goal.put-at_offset-requires
 unfolding frame_head_format
-put_u2-at_offset-requires c =
+put-at_offset-requires c =
     let parted : let h = c.args.head in Parted (taken.u2.write h.count) (taken.u8.write h.offset.0) ((frame_head taken false).write h) c.args.out.now =
     record { same = rw append-nil; room = c.requires.1 } in
     (c.requires.0.0.0, first-room parted)
 
-pub put_u8-requires : goal.put_u8-requires
+pub put-requires : goal.put-requires
 unfolding frame_head_format
-put_u8-requires c =
+put-requires c =
     let parted : let h = c.args.head in Parted (taken.u2.write h.count) (taken.u8.write h.offset.0) ((frame_head taken false).write h) c.args.out.now =
     record { same = rw append-nil; room = c.requires.1 } in
-    let after : Room c.put_u2-at_offset.new.out c.put_u2-at_offset.result (length (taken.u8.write c.args.head.offset.0)) =
-    next-room parted c.put_u2-at_offset.ensures in
+    let after : Room c.put-at_offset.new.out c.put-at_offset.result (length (taken.u8.write c.args.head.offset.0)) =
+    next-room parted c.put-at_offset.ensures in
     (c.requires.0.1.0, after.next)
 
 pub returns : goal.returns
@@ -31,4 +31,4 @@ unfolding frame_head_format
 returns c =
     let parted : let h = c.args.head in Parted (taken.u2.write h.count) (taken.u8.write h.offset.0) ((frame_head taken false).write h) c.args.out.now =
     record { same = rw append-nil; room = c.requires.1 } in
-    put_both parted c.put_u2-at_offset.ensures c.put_u8.ensures
+    put_both parted c.put-at_offset.ensures c.put.ensures

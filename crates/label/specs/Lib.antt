@@ -1,2 +1,0 @@
--- Lists of buttons that are lent.
-pub mod Lists

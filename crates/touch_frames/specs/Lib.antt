@@ -1,0 +1,2 @@
+-- What is answered of a whole body.
+pub mod Checks

@@ -1,8 +1,0 @@
--- `writing::numbers::put_u2` meets its contract: in range and with room, it is written.
--- Assumes nothing.
-use Rattle.writing.proofs.Putting.{put-integer}
-use Rattle.writing.proofs.numbers.put_u2.Goals as goal
-
-pub returns : goal.returns
-returns c =
-    put-integer 1 0 _ _ _ _ _ c.requires.0 c.requires.1 c.write_u2.ensures

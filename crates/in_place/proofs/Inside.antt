@@ -10,7 +10,7 @@ use Rattle.entries.specs.Entries.{front_of}
 use Rattle.std.specs.Prelude.{Some}
 use Rattle.entries.proofs.Laws.{front-inside}
 
-pub entry-inside : (file : List ℕ) (from n : ℕ) → from ≤ length file → front_of (take (length file - from) (drop from file)) ≡ Some n → from + (2 + n) ≤ length file
-entry-inside file from n h e =
+pub entry_inside : (file : List ℕ) (from n : ℕ) → from ≤ length file → front_of (take (length file - from) (drop from file)) ≡ Some n → from + (2 + n) ≤ length file
+entry_inside file from n h e =
     let l : length (take (length file - from) (drop from file)) ≡ length file - from = length-take-le (length file - from) (drop from file) (simp length-drop (omega arith)) in
     omega (arith, front-inside (take (length file - from) (drop from file)) n e)

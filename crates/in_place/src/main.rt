@@ -55,6 +55,7 @@ fn add_last(page: &mut [u8], place: usize, number: u64) -> usize
 }
 
 // The entries of a file to a receiver where it stands, one after the other; answers where the page ends.
+#[tactic(auto, using(crate::proofs::Inside::entry_inside))]
 fn run(file: &[u8], page: &mut [u8], output: &mut [u8]) -> usize
     requires { line_most ≤ length page.old }
     ensures { result ≤ length page.new }
@@ -81,6 +82,7 @@ fn run(file: &[u8], page: &mut [u8], output: &mut [u8]) -> usize
 }
 
 // The same to a receiver in parts.
+#[tactic(auto, using(crate::proofs::Inside::entry_inside))]
 fn run_parts(file: &[u8], page: &mut [u8], output: &mut [u8]) -> usize
     requires { line_most ≤ length page.old }
     ensures { result ≤ length page.new }

@@ -6,3 +6,4 @@ pub mod Signed
 pub mod Judgement
 pub mod Scanning
 pub mod Unique
+pub mod Ends

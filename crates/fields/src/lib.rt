@@ -13,6 +13,9 @@ use paper::Refusal;
 pub fn read<T: Integer>(rest: &[u8], strictly: bool) -> Result<(T, &[u8]), Refusal>
     ensures { read_of result ≡ (integer T.shape (reading_by strictly) T.COUNT_BITS T.SIGN_BITS).read rest.now }
 {
-    let (value, n) = integers::read::<T>(rest, strictly)?;
+    let got = integers::read::<T>(rest, strictly);
+    let Ok((value, n)) = got else {
+        return Err(got.unwrap_err());
+    };
     Ok((value, &rest[n..]))
 }

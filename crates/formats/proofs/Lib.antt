@@ -5,3 +5,4 @@ pub mod Least
 pub mod Refusing
 pub mod Agreeing
 pub mod Unique
+pub mod Ends

@@ -3,3 +3,4 @@ pub mod Passes
 pub mod Contacts
 pub mod Finding
 pub mod Unique
+pub mod Ends

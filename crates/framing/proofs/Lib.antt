@@ -11,3 +11,4 @@ pub mod Whole
 pub mod Agreeing
 pub mod Limits
 pub mod After
+pub mod Ends

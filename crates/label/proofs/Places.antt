@@ -1,6 +1,6 @@
 -- Places in a list of buttons: which of them a search ends at, and what is hit there.
 -- Assumes nothing.
-use Rattle.std.proofs.Common.{◌≡◌, ℕ, suc, ◌≤◌, Bool, true, false, cond, List, [], ◌∷◌, length, refl, sym, ap, ◌∙◌, arith, Some, None, Option, ltb, ltb-false}
+use Rattle.std.proofs.Common.{◌≡◌, ℕ, suc, ◌≤◌, Bool, true, false, cond, List, [], ◌∷◌, length, refl, sym, ap, ◌∙◌, arith, Some, None, ltb, ltb-false}
 use Rattle.std.specs.List.{position_or_len}
 use Rattle.std.specs.Option.{unwrap_or}
 use Rattle.std.proofs.lemmas.List.Recursion.{is_position_or_len}
@@ -10,8 +10,9 @@ use mir.Val.{SFits, of_z, to_z}
 use Rattle.std.proofs.lemmas.Int.{to_z-of_z}
 use Rattle.house.specs.declared.Point.{Point}
 use Rattle.presses.specs.Buttons.{holds, first_holding, nowhere, hit_of, hit_in}
-use Rattle.presses.specs.Turns.{look_at, hit_by, hit_at}
+use Rattle.presses.specs.Turns.{look_at, hit_at}
 use Rattle.presses.specs.declared.Button.{Button}
+use Rattle.presses.specs.declared.Look.{Look}
 
 -- THE PLACE that a search ends at, the list's length where it finds none
 found-within : (bs : List Button) (p : Point) → first_holding bs p ≤ length bs
@@ -37,13 +38,14 @@ first-found bs p =
     ap (λ (n : ℕ). unwrap_or (cond (ltb n (length bs)) (Some n) None) (length bs)) (sym e) ∙ found-or (first_holding bs p) (length bs) (found-within bs p)
 
 -- the hit at the place of a point that is looked at, and none where none is
-pub hit-due : (bs : List Button) (l : List ℕ) (at : ℕ) (look : Option Point) (p : Point) (place : ℕ) → look ≡ look_at l at → look ≡ Some p → place ≡ first_holding bs p → hit_of bs place ≡ hit_at (hit_in bs) l at
+pub hit-due : (bs : List Button) (l : List ℕ) (at : ℕ) (look : Look) (place : ℕ) → look ≡ look_at l at → look.due ≡ true → place ≡ first_holding bs look.point → hit_of bs place ≡ hit_at (hit_in bs) l at
 unfolding hit_in hit_at
-hit-due bs l at look p place e f g = ap (hit_of bs) g ∙ ap (hit_by (hit_in bs)) (sym f ∙ e)
+hit-due bs l at look place e due p =
+    ap (hit_of bs) p ∙ ap (λ d. hit_in bs d.point) e ∙ ap (λ t. cond t (hit_in bs (look_at l at).point) nowhere) (sym due ∙ ap (λ d. d.due) e)
 
-pub hit-none : (bs : List Button) (l : List ℕ) (at : ℕ) (look : Option Point) → look ≡ look_at l at → look ≡ None → nowhere ≡ hit_at (hit_in bs) l at
+pub hit-none : (bs : List Button) (l : List ℕ) (at : ℕ) (look : Look) → look ≡ look_at l at → look.due ≡ false → nowhere ≡ hit_at (hit_in bs) l at
 unfolding hit_at
-hit-none bs l at look e f = ap (hit_by (hit_in bs)) (sym f ∙ e)
+hit-none bs l at look e due = ap (λ t. cond t (hit_in bs (look_at l at).point) nowhere) (sym due ∙ ap (λ d. d.due) e)
 
 abbrev pub record_point : ℤ → ℤ → Point
 record_point x y = record { x = x; y = y }

@@ -29,9 +29,11 @@ fn hit_of(buttons: &[Button], place: usize) -> Hit
 pub(crate) fn hit_at(buttons: &[Button], records: &[u8], at: usize) -> Hit
     ensures { result ≡ hit_at (hit_in buttons.now) records.now at }
 {
-    let Some(point) = press_turns::look_at(records, at) else {
-        return none_hit();
-    };
-    let place = crate::kangirlo_button_at(buttons, point.x, point.y);
-    hit_of(buttons, place)
+    let look = press_turns::look_at(records, at);
+    if look.due {
+        let place = crate::kangirlo_button_at(buttons, look.point.x, look.point.y);
+        hit_of(buttons, place)
+    } else {
+        none_hit()
+    }
 }

@@ -2,3 +2,4 @@ pub mod Moving
 pub mod Cancelling
 pub mod Dismissal
 pub mod Unique
+pub mod Ends

@@ -2,3 +2,4 @@
 pub mod Reading
 pub mod Listed
 pub mod Unique
+pub mod Ends

@@ -1,36 +1,29 @@
 -- What a turn over a record comes to.
 -- Assumes nothing.
-use Rattle.std.proofs.Common.{◌≡◌, ℕ, Bool, true, false, cond, List, [], ◌∷◌, length, get_or, drop, set, sym, refl, ap, ◌∙◌, Some, None}
+use Rattle.std.proofs.Common.{◌≡◌, ℕ, Bool, true, false, cond, List, [], ◌∷◌, length, get_or, drop, set, sym, refl, ap, ◌∙◌}
 use Rattle.states.specs.Table.{out, next}
-use Rattle.std.specs.Bool.{then_some}
 use Rattle.house.specs.Layout.{record_of}
-use Rattle.house.specs.declared.Point.{Point}
 use Rattle.house.specs.declared.Contact.{Contact}
 use Rattle.house.specs.declared.Record.{Record}
 use Rattle.presses.specs.declared.Hit.{Hit}
 use Rattle.presses.specs.declared.Tally.{Tally}
-use Rattle.presses.specs.Choosing.{Choice, looks, is_choice, pressed_after, states_after, pressed_in, record_chosen}
-use Rattle.presses.specs.Turns.{looked_at, look_at, Went, went_to, count_on, tallied, put_choices, TakesContact, turned_by, went_on, next_at}
+use Rattle.presses.specs.Choosing.{Choice, is_choice, pressed_after, states_after, pressed_in, record_chosen, point_of}
+use Rattle.presses.specs.Turns.{looks_in, no_look, look_at, Went, went_to, count_on, tallied, put_choices, TakesContact, turned_by, went_on, next_at}
 
 -- ---- what a record looks at
+
+pub look-of : (l : List ℕ) (at : ℕ) (r : Record) → record_of (drop at l) ≡ r → look_at l at ≡ record { due = looks_in r; point = point_of r }
+unfolding look_at
+look-of l at r e = rw e refl
 
 -- that a record is no contact
 abbrev pub NoContact : Record → Type 0
 NoContact r = (kind : ℕ) → (c : Contact) → r ≡ Record.Contact kind c → ⊥
 
-pub look-none : (l : List ℕ) (at : ℕ) (r : Record) → r ≡ record_of (drop at l) → NoContact r → None ≡ look_at l at
-unfolding look_at
-look-none l at (Record.Head x) e n = ap looked_at e
+pub look-none : (l : List ℕ) (at : ℕ) (r : Record) → r ≡ record_of (drop at l) → NoContact r → no_look ≡ look_at l at
+look-none l at (Record.Head x) e n = sym (look-of l at (Record.Head x) (sym e))
 look-none l at (Record.Contact kind c) e n = absurd (n kind c refl)
-look-none l at (Record.Refused x) e n = ap looked_at e
-
-pub look-contact : (l : List ℕ) (at : ℕ) (looks_here : Bool) (kind : ℕ) (c : Contact) → looks_here ≡ looks c.flags → Record.Contact kind c ≡ record_of (drop at l) → then_some looks_here c.place ≡ look_at l at
-unfolding look_at
-look-contact l at looks_here kind c f e = some_if looks_here c.place ∙ ap (λ (b : Bool). cond b (Some c.place) None) f ∙ ap looked_at e
-  where
-    some_if : (b : Bool) (p : Point) → then_some b p ≡ cond b (Some p) None
-    some_if true p = refl
-    some_if false p = refl
+look-none l at (Record.Refused x) e n = sym (look-of l at (Record.Refused x) (sym e))
 
 -- ---- a choice or none
 

@@ -4,10 +4,10 @@
 ghost use Rattle.std.specs.Prelude.{◌≡◌, [], ◌∷◌, if◌then◌else◌, drop};
 ghost use Rattle.house.specs.Layout.{record_of};
 ghost use Rattle.presses.specs.Choosing.{is_choice, is_lift, looks, pressed_after};
-ghost use Rattle.presses.specs.Turns.{look_at, next_at, count_on, put_choices, TakesContact, went_to, went_on};
+ghost use Rattle.presses.specs.Turns.{no_look, look_at, next_at, count_on, put_choices, TakesContact, went_to, went_on};
 
 use house::{Contact, Point, Record};
-use presses::{Hit, Tally};
+use presses::{Hit, Look, Tally};
 
 // Goes engaged.
 const PRESS: u8 = 0x19;
@@ -35,14 +35,27 @@ fn record_at(records: &[u8], at: usize) -> Record
     unpacking::read_record(&records[at.min(records.len())..])
 }
 
-// The point at which the record at a place looks at buttons, if it does.
-pub fn look_at(records: &[u8], at: usize) -> Option<Point>
+// What looks at nothing.
+fn no_look() -> Look
+    ensures { result ≡ no_look }
+{
+    Look {
+        due: false,
+        point: Point { x: 0, y: 0 },
+    }
+}
+
+// Whether the record at a place looks at buttons, and at which point.
+pub fn look_at(records: &[u8], at: usize) -> Look
     ensures { result ≡ look_at records.now at }
 {
     let Record::Contact(_, contact) = record_at(records, at) else {
-        return None;
+        return no_look();
     };
-    does_look(contact.flags).then_some(contact.place)
+    Look {
+        due: does_look(contact.flags),
+        point: contact.place,
+    }
 }
 
 // A lift in the button that was pressed.

@@ -4,7 +4,6 @@ use Prim.Native.Nat.{ℕ, zero, suc, ◌+◌, ◌-◌, ◌/◌, ◌^◌, ◌≤�
 use mathlib.Core.Path.{◌≡◌, refl, sym, ap, ◌∙◌}
 use mathlib.Core.Bool.{Bool, true, false, cond}
 use mathlib.Core.List.{List, [], ◌∷◌, ◌++◌}
-use Rattle.std.specs.Prelude.{Some, None}
 use native.Mathlib.Omega.{arith}
 use borrow.Author.Tests.{eqb-true, le-leb, leb-true, leb-false, ltb-true}
 use lib.Dec.{eqb, leb, ltb}
@@ -25,7 +24,7 @@ use Rattle.presses.specs.declared.Tally.{Tally}
 use Rattle.presses.specs.declared.Picked.{Picked}
 use Rattle.presses.specs.Buttons.{nowhere}
 use Rattle.presses.specs.Choosing.{Choice, press, looks, is_lift, pressed_after, is_choice, point_of, states_after, pressed_in, record_kept, record_chosen, kept_of, chosen_in, records_in, is_taken, numbers_of, refusal_of, decided, list_after, Chooses}
-use Rattle.presses.specs.Turns.{looks_in, look_at, hit_by, hit_at, put_choices, Went, went_to, begun_at, next_at, tallied, turned_by, went_on, turns, driven, counting_from, ruled, writing_from, concluded, chosen_as}
+use Rattle.presses.specs.Turns.{looks_in, look_at, hit_at, put_choices, Went, went_to, begun_at, next_at, tallied, turned_by, went_on, turns, driven, counting_from, ruled, writing_from, concluded, chosen_as}
 use Rattle.presses.proofs.Driving.{next-is, driven-done}
 use Rattle.presses.proofs.Putting.{numbers-long, places-fit, counted_is, put-append, put-none, put_all}
 
@@ -53,11 +52,7 @@ module _ (hit : Point → Hit) (l : List ℕ) (at : ℕ) where
 
   hit-is : hit_at hit l at ≡ cond (looks_in here) (hit (point_of here)) nowhere
   unfolding hit_at look_at
-  hit-is = go (looks_in here)
-    where
-      go : (b : Bool) → hit_by hit (cond b (Some (point_of here)) None) ≡ cond b (hit (point_of here)) nowhere
-      go true = refl
-      go false = refl
+  hit-is = refl
 
   kept_by : (r : Record) (b : Bool) (label : Label) → looks_in r ≡ b → record_kept (cond b (hit (point_of r)) nowhere) label r ≡ record_kept (hit (point_of r)) label r
   unfolding states_after pressed_in

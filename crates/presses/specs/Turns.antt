@@ -1,5 +1,5 @@
 -- How a run over records goes, one record a turn, for whoever looks up the buttons between the turns.
-use Rattle.std.specs.Prelude.{ℕ, zero, suc, ◌+◌, ◌*◌, ◌-◌, ◌/◌, ◌%◌, ◌^◌, ◌≡◌, Bool, true, false, cond, List, [], ◌∷◌, eqb, leb, ltb, length, drop, set, Option, Some, None, Result, Ok, Err}
+use Rattle.std.specs.Prelude.{ℕ, zero, suc, ◌+◌, ◌*◌, ◌-◌, ◌/◌, ◌%◌, ◌^◌, ◌≡◌, Bool, true, false, cond, List, [], ◌∷◌, eqb, leb, ltb, pos, length, drop, set, Result, Ok, Err}
 use Rattle.paper.specs.Refusals.{number, none, no_room, bad_record}
 use Rattle.paper.specs.declared.Refusal.{Refusal}
 use Rattle.house.specs.Fields.{record_bytes}
@@ -9,32 +9,28 @@ use Rattle.house.specs.declared.Contact.{Contact}
 use Rattle.house.specs.declared.Record.{Record}
 use Rattle.presses.specs.declared.Label.{Label}
 use Rattle.presses.specs.declared.Hit.{Hit}
+use Rattle.presses.specs.declared.Look.{Look}
 use Rattle.presses.specs.declared.Tally.{Tally}
 use Rattle.presses.specs.declared.Picked.{Picked}
 use Rattle.presses.specs.declared.Chosen.{Chosen}
 use Rattle.presses.specs.Buttons.{nowhere}
 use Rattle.presses.specs.Choosing.{Choice, looks, point_of, states_after, pressed_in, contact_chosen, record_kept, record_chosen, is_taken}
 
--- whether a record looks at buttons
+-- whether a record looks at buttons, and where
 abbrev pub looks_in : Record → Bool
 looks_in (Record.Head h) = false
 looks_in (Record.Contact kind c) = looks c.flags
 looks_in (Record.Refused e) = false
 
--- and where
-abbrev pub looked_at : Record → Option Point
-looked_at r = cond (looks_in r) (Some (point_of r)) None
+abbrev pub no_look : Look
+no_look = record { due = false; point = record { x = pos 0; y = pos 0 } }
 
-unfoldable pub look_at : List ℕ → ℕ → Option Point
-look_at l at = looked_at (record_of (drop at l))
-
-abbrev pub hit_by : (Point → Hit) → Option Point → Hit
-hit_by hit None = nowhere
-hit_by hit (Some p) = hit p
+unfoldable pub look_at : List ℕ → ℕ → Look
+look_at l at = let r : Record = record_of (drop at l) in record { due = looks_in r; point = point_of r }
 
 -- what the record at a place looks at
 unfoldable pub hit_at : (Point → Hit) → List ℕ → ℕ → Hit
-hit_at hit l at = hit_by hit (look_at l at)
+hit_at hit l at = cond (look_at l at).due (hit (look_at l at).point) nowhere
 
 -- choices put into a list of numbers behind n others, each where there is room, or none of them
 unfoldable pub put_choices : Bool → ℕ → List Choice → List ℕ → List ℕ

@@ -5,6 +5,8 @@ ghost use Rattle.std.specs.Prelude.{◌≡◌};
 ghost use Rattle.presses.specs.Buttons.{holds};
 ghost use Rattle.presses.specs.Choosing as spec;
 
+use house::Point;
+
 mod calls;
 
 pub use calls::{begin, conclude, counting_from, writing_from};
@@ -34,6 +36,13 @@ pub struct Label {
 pub struct Hit {
     pub number: usize,
     pub item: u32,
+}
+
+// Whether a record looks at buttons, and the point that it looks at.
+#[derive(Clone, Copy)]
+pub struct Look {
+    pub due: bool,
+    pub point: Point,
 }
 
 // How far a run over records has come: where the next record stands, and how many choices there were.

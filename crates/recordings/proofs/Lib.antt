@@ -1,3 +1,4 @@
 pub mod Records
 pub mod Judged
 pub mod Unique
+pub mod Ends

@@ -5,3 +5,4 @@ pub mod Ranges
 pub mod Unique
 pub mod Least
 pub mod Agreeing
+pub mod Ends

@@ -1,2 +1,3 @@
 pub mod Passes
 pub mod Unique
+pub mod Ends

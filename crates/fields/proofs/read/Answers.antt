@@ -5,7 +5,7 @@ use Rattle.integers.proofs.Laws.{reading-inside}
 use Rattle.fields.proofs.read.Goals as goal
 
 pub slice_bounds-result-count : goal.slice_bounds-result-count
-slice_bounds-result-count g c = reading-inside _ _ _ _ _ _ _ (sym c.in_ok-value.ensures)
+slice_bounds-result-count g c = reading-inside _ _ _ _ _ _ _ (sym c.in-Ok.ensures)
 
 pub slice_bounds-result-start : goal.slice_bounds-result-start
-slice_bounds-result-start g c = reading-inside _ _ _ _ _ _ _ (sym c.in_ok-value.ensures)
+slice_bounds-result-start g c = reading-inside _ _ _ _ _ _ _ (sym c.in-Ok.ensures)

@@ -7,7 +7,7 @@ use mathlib.Core.List.{List}
 use lib.ListN.{drop}
 use Rattle.formats.specs.Format.{got}
 use Rattle.formats.proofs.Laws.{never}
-use Rattle.formats.proofs.Ends.{EndOf, Ends}
+use Rattle.formats.proofs.Ends.{TailOf, Ends}
 use Rattle.integers.specs.Integer.{Reading, value, refused, reading_by}
 use Rattle.integers.specs.Shape.{Shape, unsigned, signed}
 use Rattle.integers.proofs.Laws.{reading-inside}
@@ -16,7 +16,7 @@ use Rattle.fields.specs.Integers.{got_by, integer, Integers, taken_by}
 integer-ends : {A : Type 0} (h : Shape A) (strictly : Bool) (k g : ℕ) → Ends (integer h (reading_by strictly) k g)
 integer-ends {A} h strictly k g = record { ends = λ l b t e. go l b t (reading_by strictly k g l) refl e }
   where
-    go : (l : List ℕ) (b : A) (t : List ℕ) (x : Reading) → reading_by strictly k g l ≡ x → got_by h.made x l ≡ got b t → EndOf l t
+    go : (l : List ℕ) (b : A) (t : List ℕ) (x : Reading) → reading_by strictly k g l ≡ x → got_by h.made x l ≡ got b t → TailOf l t
     go l b t (refused x) w e = never x b t e
     go l b t (value s m n) w e =
         let z : drop n l ≡ t = cc in

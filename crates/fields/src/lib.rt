@@ -2,7 +2,7 @@
 #![tactic(auto)]
 
 ghost use Rattle.std.specs.Prelude.{◌≡◌};
-ghost use Rattle.formats.specs.Answer.{read_of};
+ghost use Rattle.formats.specs.Answer.{read_of, tail_end, end_of};
 ghost use Rattle.integers.specs.Integer.{reading_by};
 ghost use Rattle.fields.specs.Integers.{integer};
 
@@ -11,7 +11,8 @@ use paper::Refusal;
 
 // The integer at the front, in its only form or in any, and what is behind it: the tail that the next field is read from.
 pub fn read<T: Integer>(rest: &[u8], strictly: bool) -> Result<(T, &[u8]), Refusal>
-    ensures { read_of result ≡ (integer T.shape (reading_by strictly) T.COUNT_BITS T.SIGN_BITS).read rest.now }
+    ensures value { read_of result ≡ (integer T.shape (reading_by strictly) T.COUNT_BITS T.SIGN_BITS).read rest.now }
+    ensures tail { tail_end rest.entry result ≡ end_of rest.entry }
 {
     let got = integers::read::<T>(rest, strictly);
     let Ok((value, n)) = got else {

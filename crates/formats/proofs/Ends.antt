@@ -18,28 +18,28 @@ use Rattle.formats.specs.Answer.{read_of, left_of, skipped, skip}
 use Rattle.formats.proofs.Laws.{never, such_got, more-got}
 
 -- t is l without n bytes of its front
-abbrev pub EndOf : List ℕ → List ℕ → Type 0
-EndOf l t = (n : ℕ) × (n ≤ length l) × (t ≡ drop n l)
+abbrev pub TailOf : List ℕ → List ℕ → Type 0
+TailOf l t = (n : ℕ) × (n ≤ length l) × (t ≡ drop n l)
 
 -- what is behind a value is the end of what it was read from
 pub record Ends {A : Type 0} (f : Format A) : Type 0 where
-  pub ends : (l : List ℕ) (a : A) (t : List ℕ) → f.read l ≡ got a t → EndOf l t
+  pub ends : (l : List ℕ) (a : A) (t : List ℕ) → f.read l ≡ got a t → TailOf l t
 
 -- the end of an end
-further : (l t u : List ℕ) → EndOf l t → EndOf t u → EndOf l u
+further : (l t u : List ℕ) → TailOf l t → TailOf t u → TailOf l u
 further l t u (n, h, e) (k, i, v) =
     let w : length t ≡ length l - n = rw e (length-drop n l) in
     (n + k, omega arith, v ∙ (ap (drop k) e ∙ drop-drop k n l))
 
 -- whatever is dropped, the rest is an end
-pub drop-ends : (k : ℕ) (l : List ℕ) → EndOf l (drop k l)
+pub drop-ends : (k : ℕ) (l : List ℕ) → TailOf l (drop k l)
 drop-ends k l = go (cases_lt (length l) k)
   where
-    go : (length l < k) ⊎ (k ≤ length l) → EndOf l (drop k l)
+    go : (length l < k) ⊎ (k ≤ length l) → TailOf l (drop k l)
     go (inl h) = (length l, omega arith, drop_of_length-le l (omega arith) ∙ sym (drop-length l))
     go (inr h) = (k, h, refl)
 
-all-of : (l t : List ℕ) → l ≡ t → EndOf l t
+all-of : (l t : List ℕ) → l ≡ t → TailOf l t
 all-of l t e = (0, omega arith, sym e)
 
 pub done-ends : {A : Type 0} (a : A) → Ends (done a)
@@ -49,7 +49,7 @@ module _ {A B : Type 0} (f : Format A) (p : B → A) (g : A → Format B) where
   pub field-ends : Ends f → ((a : A) → Ends (g a)) → Ends (field f p g)
   field-ends hf hg = record { ends = λ l b t e. go l b t (f.read l) refl e }
     where
-      go : (l : List ℕ) (b : B) (t : List ℕ) (x : Got A) → f.read l ≡ x → and_then x (λ a t. (g a).read t) ≡ got b t → EndOf l t
+      go : (l : List ℕ) (b : B) (t : List ℕ) (x : Got A) → f.read l ≡ x → and_then x (λ a t. (g a).read t) ≡ got b t → TailOf l t
       go l b t (bad x) w e = never x b t e
       go l b t (got a u) w e = further l u t (hf.ends l a u w) ((hg a).ends u b t e)
 
@@ -61,7 +61,7 @@ when-ends f z true hf = hf
 when-ends f z false hf = done-ends z
 
 module _ {A : Type 0} (f : Bool → Format A) (hf : (b : Bool) → Ends (f b)) where
-  behind-all : (first : Bool) (n : ℕ) (l : List ℕ) (s : List A) (t : List ℕ) → (series f first n).read l ≡ got s t → EndOf l t
+  behind-all : (first : Bool) (n : ℕ) (l : List ℕ) (s : List A) (t : List ℕ) → (series f first n).read l ≡ got s t → TailOf l t
   unfolding read_series
   behind-all first zero l s t e = all-of l t cc
   behind-all first (suc n) l s t e =
@@ -74,7 +74,7 @@ module _ {A : Type 0} (f : Bool → Format A) (hf : (b : Bool) → Ends (f b)) w
 pub times-ends : {A : Type 0} (f : Format A) (n : ℕ) → Ends f → Ends (times n f)
 times-ends f n hf = series-ends (λ b. f) (λ b. hf) false n
 
-behind-byte : (l : List ℕ) (a : ℕ) (t : List ℕ) → byte.read l ≡ got a t → EndOf l t
+behind-byte : (l : List ℕ) (a : ℕ) (t : List ℕ) → byte.read l ≡ got a t → TailOf l t
 unfolding read_byte
 behind-byte [] a t e = never truncated a t e
 behind-byte (x ∷ l) a t e = let w : l ≡ t = cc in (1, omega arith, sym w)
@@ -86,11 +86,11 @@ byte-ends = record { ends = behind-byte }
 
 -- what an answer hands on behind a value
 abbrev pub AnswerEnds : {A : Type 0} → List ℕ → Result (A × Bor (List ℕ)) Refusal → Type 0
-AnswerEnds l (Ok (a, t)) = EndOf l t.now
+AnswerEnds l (Ok (a, t)) = TailOf l t.now
 AnswerEnds l (Err e) = Unit {0}
 
 abbrev pub LeftEnds : List ℕ → Result (Bor (List ℕ)) Refusal → Type 0
-LeftEnds l (Ok t) = EndOf l t.now
+LeftEnds l (Ok t) = TailOf l t.now
 LeftEnds l (Err e) = Unit {0}
 
 module _ {A : Type 0} (f : Format A) (h : Ends f) (l : List ℕ) where
@@ -101,7 +101,7 @@ module _ {A : Type 0} (f : Format A) (h : Ends f) (l : List ℕ) where
   pub left-ends : (r : Result (Bor (List ℕ)) Refusal) → left_of r ≡ (skip f).read l → LeftEnds l r
   left-ends (Ok t) e = go (f.read l) refl e
     where
-      go : (x : Got A) → f.read l ≡ x → got tt t.now ≡ skipped x → EndOf l t.now
+      go : (x : Got A) → f.read l ≡ x → got tt t.now ≡ skipped x → TailOf l t.now
       go (got a u) w e = let v : t.now ≡ u = cc in rw v (h.ends l a u w)
       go (bad x) w e = never {A = Unit {0}} x tt t.now (sym e)
   left-ends (Err x) e = tt

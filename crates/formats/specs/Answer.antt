@@ -1,5 +1,5 @@
 -- What code that reads a format answers: a value and the bytes behind it, or a refusal.
-use Rattle.std.specs.Prelude.{List, [], ℕ, Result, Ok, Err}
+use Rattle.std.specs.Prelude.{List, [], ℕ, ◌+◌, length, Result, Ok, Err}
 use Rattle.std.specs.Borrow.{Bor}
 use Rattle.paper.specs.Refusals.{number}
 use Rattle.paper.specs.declared.Refusal.{Refusal}
@@ -19,6 +19,21 @@ whole_of (Err e) = bad (number e)
 abbrev pub left_of : Result (Bor (List ℕ)) Refusal → Got (Unit {0})
 left_of (Ok t) = got tt t.now
 left_of (Err e) = bad (number e)
+
+-- where a slice ends: its block, and how far into that
+abbrev pub end_of : Bor (List ℕ) → ℕ × ℕ
+end_of t = (t.ref_ptr.0, t.ref_ptr.1 + length t.now)
+
+-- where the slice ends that such an answer hands on, and of a refusal, which hands on none, the one that was lent. A reader hands on the end of
+-- what it was lent, so that this is where that ends
+abbrev pub tail_end : {A : Type 0} → Bor (List ℕ) → Result (A × Bor (List ℕ)) Refusal → ℕ × ℕ
+tail_end l (Ok (a, t)) = end_of t
+tail_end l (Err e) = end_of l
+
+-- .. and of one without a value
+abbrev pub left_end : Bor (List ℕ) → Result (Bor (List ℕ)) Refusal → ℕ × ℕ
+left_end l (Ok t) = end_of t
+left_end l (Err e) = end_of l
 
 -- what is left behind a value, without the value
 abbrev pub skipped : {A : Type 0} → Got A → Got (Unit {0})

@@ -5,6 +5,7 @@ use Rattle.paper.specs.Refusals.{no_room}
 use Rattle.slices.specs.Writing.{laid, Draft, bytes, refuse, Writes}
 use Rattle.slices.specs.declared.Written.{Written}
 use Rattle.formats.specs.Format.{got, bad}
+use Rattle.formats.specs.Answer.{end_of}
 use Rattle.fields.specs.Integers.{taken}
 use Rattle.house.specs.Fields.{record_bytes}
 use Rattle.house.specs.Layout.{head_bytes}
@@ -45,6 +46,11 @@ abbrev pub FindsFrame : List ℕ → Option (Head × Bor (List ℕ) × Bor (List
 FindsFrame l (Some (h, cs, t)) =
     (f : Frame Contact) × ((frame taken false).read l ≡ got f t.now) × (h ≡ head_of f) × ((frame_head taken false).read l ≡ got h cs.now)
 FindsFrame l None = (e : ℕ) × ((frame taken false).read l ≡ bad e)
+
+-- both are the end of what they are found in
+abbrev pub FrameEnds : Bor (List ℕ) → Option (Head × Bor (List ℕ) × Bor (List ℕ)) → Type 0
+FrameEnds l (Some (h, cs, t)) = (end_of cs ≡ end_of l) × (end_of t ≡ end_of l)
+FrameEnds l None = Unit {0}
 
 -- a frame of no contacts
 abbrev pub empty_head : Head

@@ -1,6 +1,7 @@
 // The frame at the front of what is lent.
 ghost use Rattle.std.specs.Prelude.{◌≡◌};
-ghost use Rattle.frame_records.specs.Frames.{head_in, contacts_in, FindsFrame};
+ghost use Rattle.formats.specs.Answer.{end_of};
+ghost use Rattle.frame_records.specs.Frames.{head_in, contacts_in, FindsFrame, FrameEnds};
 
 use house::Head;
 use paper::Microseconds;
@@ -13,7 +14,8 @@ const EMPTY: Head = Head {
 
 // The frame at the front of what is lent, whose offset is not judged, where one can be read: its head, its contacts, and what is behind it.
 pub fn find_frame(rest: &[u8]) -> Option<(Head, &[u8], &[u8])>
-    ensures { FindsFrame rest.now result }
+    ensures value { FindsFrame rest.now result }
+    ensures tail { FrameEnds rest.entry result }
 {
     let (head, contacts) = touch_frames::read_frame_head(rest, false, false).ok()?;
     let behind = touch_frames::skip_contacts(contacts, head.count as usize, false).ok()?;
@@ -23,7 +25,8 @@ pub fn find_frame(rest: &[u8]) -> Option<(Head, &[u8], &[u8])>
 // The head of the frame at the front of what is lent, whose offset is not judged, and what is behind it; where none can be read the head of an
 // empty frame, and all that is lent.
 pub fn find_head(rest: &[u8]) -> (Head, &[u8])
-    ensures { (result.0 ≡ head_in rest.now) × (result.1.now ≡ contacts_in rest.now) }
+    ensures value { (result.0 ≡ head_in rest.now) × (result.1.now ≡ contacts_in rest.now) }
+    ensures tail { end_of result.1 ≡ end_of rest.entry }
 {
     match touch_frames::read_frame_head(rest, false, false) {
         Ok(found) => found,

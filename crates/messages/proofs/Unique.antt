@@ -1,5 +1,4 @@
 -- Two outcomes that a public call's contract allows are equal: the contracts decide the answer.
--- Where an answer hands on a slice they are equal but for where its bytes lie.
 -- Assumes nothing.
 use Prim.Native.Nat.{ℕ}
 use mathlib.Core.Path.{◌≡◌, sym, ◌∙◌}
@@ -10,8 +9,8 @@ use Rattle.std.specs.Borrow.{Bor}
 use Rattle.paper.specs.Refusals.{trailing}
 use Rattle.paper.specs.declared.Refusal.{Refusal}
 use Rattle.formats.specs.Format.{Got, whole, byte}
-use Rattle.formats.specs.Answer.{read_of, whole_of}
-use Rattle.formats.proofs.Unique.{Alike, read-alike, whole-once}
+use Rattle.formats.specs.Answer.{whole_of}
+use Rattle.formats.proofs.Unique.{Answers, read-once, whole-once}
 use Rattle.messages.specs.Header.{headed, read_message, server_ready, client_ready, suspend, resume, dismiss}
 use Rattle.messages.specs.Bodies.{version_listed, version, ready, nothing}
 
@@ -20,7 +19,7 @@ abbrev One : {A : Type 0} → (List ℕ → Got A) → Type 0
 One {A} P = (l : List ℕ) (r s : Result A Refusal) → whole_of r ≡ P l → whole_of s ≡ P l → r ≡ s
 
 pub record Readers : Type 0 where
-  pub read-header : (first second : ℕ) (l : List ℕ) (r s : Result (ℕ × Bor (List ℕ)) Refusal) → read_of r ≡ headed (first ∷ second ∷ []) l → read_of s ≡ headed (first ∷ second ∷ []) l → Alike r s
+  pub read-header : (first second : ℕ) (l : Bor (List ℕ)) (r s : Result (ℕ × Bor (List ℕ)) Refusal) → Answers (headed (first ∷ second ∷ []) l.now) l r → Answers (headed (first ∷ second ∷ []) l.now) l s → r ≡ s
   pub is-version : (v : ℕ) (r s : Bool) → r ≡ version_listed v → s ≡ version_listed v → r ≡ s
   pub read-server-ready-body : One (whole version trailing)
   pub read-ready-body : One (whole ready trailing)
@@ -38,7 +37,7 @@ one P l = whole-once (P l)
 pub readers-unique : Readers
 readers-unique =
     record {
-      read-header = λ first second l r s h k. read-alike _ r s h k;
+      read-header = λ first second l. read-once _ l;
       is-version = λ v r s h k. h ∙ sym k;
       read-server-ready-body = one _;
       read-ready-body = one _;

@@ -1,6 +1,6 @@
 // The header, checks 1 to 4.
 ghost use Rattle.std.specs.Prelude.{◌≡◌, [], ◌∷◌};
-ghost use Rattle.formats.specs.Answer.{read_of};
+ghost use Rattle.formats.specs.Answer.{read_of, tail_end, end_of};
 ghost use Rattle.messages.specs.Header.{one_of, headed};
 
 use crate::little::{four, two};
@@ -19,7 +19,8 @@ fn is_either(event: u16, first: u16, second: u16) -> bool
 // The event of a message and its body, for a caller that takes two events, or one named twice.
 #[tactic(auto, unfolding(crate::specs::Header::headed))]
 pub fn read_header(message: &[u8], first: u16, second: u16) -> Result<(u16, &[u8]), Refusal>
-    ensures { read_of result ≡ headed (first ∷ second ∷ []) message.now }
+    ensures value { read_of result ≡ headed (first ∷ second ∷ []) message.now }
+    ensures tail { tail_end message.entry result ≡ end_of message.entry }
 {
     if message.len() < crate::HEADER_BYTES {
         return Err(Refusal::Short);

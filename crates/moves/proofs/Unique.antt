@@ -1,13 +1,15 @@
 -- Two outcomes that a contract of this crate allows are equal, in the answer, in the output and in the table.
--- Where an answer hands on a slice they are equal but for where its bytes lie.
 -- Assumes nothing.
 use Prim.Native.Nat.{ℕ}
 use mathlib.Core.Path.{◌≡◌, sym, ◌∙◌}
 use mathlib.Core.List.{List}
+use Rattle.std.specs.Borrow.{Bor}
 use Rattle.slices.specs.Writing.{bytes, Writes}
 use Rattle.slices.specs.declared.Written.{Written}
 use Rattle.slices.proofs.Laws.{writes-unique}
 use Rattle.formats.specs.Format.{Format}
+use Rattle.formats.specs.Answer.{end_of}
+use Rattle.formats.proofs.Unique.{one-place}
 use Rattle.house.specs.declared.Point.{Point}
 use Rattle.house.specs.declared.Contact.{Contact}
 use Rattle.contacts.specs.Touch.{touch_view}
@@ -21,8 +23,9 @@ store-unique id state place t u u' h k = h ∙ sym k
 pub move-contact-unique : (c : Contact) (t u u' : Table) → Moves c t u → Moves c t u' → u ≡ u'
 move-contact-unique c t u u' h k = h ∙ sym k
 
-pub apply-unique : (format : Format Contact) (n : ℕ) (l m m' : List ℕ) (t u u' : Table) → Applies format n l m t u → Applies format n l m' t u' → (m ≡ m') × (u ≡ u')
-apply-unique format n l m m' t u u' h k = (h.passed ∙ sym k.passed, h.table ∙ sym k.table)
+pub apply-unique : (format : Format Contact) (n : ℕ) (l m m' : Bor (List ℕ)) (t u u' : Table)
+    → Applies format n l.now m.now t u × (end_of m ≡ end_of l) → Applies format n l.now m'.now t u' × (end_of m' ≡ end_of l) → (m ≡ m') × (u ≡ u')
+apply-unique format n l m m' t u u' (h, p) (k, q) = (one-place l m m' (h.passed ∙ sym k.passed) p q, h.table ∙ sym k.table)
 
 pub rest-all-unique : (u u' : Table) → u ≡ resting → u' ≡ resting → u ≡ u'
 rest-all-unique u u' h k = h ∙ sym k

@@ -1,10 +1,12 @@
 // The table of contacts, changed where it stands.
 ghost use Rattle.std.specs.Prelude.{◌≡◌};
+ghost use Rattle.formats.specs.Answer.{end_of};
 ghost use Rattle.machine.specs.Table.{with_contact, resting};
 ghost use Rattle.contacts.specs.Ruling.{source, table_from};
 ghost use Rattle.moves.specs.Moves.{Moves, Applies};
 
 use house::{Contact, Point};
+use slices::Left;
 
 // A contact's state and position, put for those that it had.
 pub fn store(
@@ -53,17 +55,18 @@ pub fn apply<'a>(
     xs: &mut [i32; 256],
     ys: &mut [i32; 256],
 ) -> &'a [u8]
-    ensures { Applies (source recorded) n rest.now result.now (table_from states.old xs.old ys.old) (table_from states.new xs.new ys.new) }
+    ensures value { Applies (source recorded) n rest.now result.now (table_from states.old xs.old ys.old) (table_from states.new xs.new ys.new) }
+    ensures tail { end_of result ≡ end_of rest.entry }
 {
-    let mut left = rest;
+    let mut left = Left { bytes: rest };
     for _ in 0..n {
-        let Ok((contact, behind)) = contacts::read_contact(left, recorded) else {
+        let Ok((contact, behind)) = contacts::read_contact(left.bytes, recorded) else {
             return rest;
         };
         move_contact(contact, states, xs, ys);
-        left = behind;
+        left = Left { bytes: behind };
     }
-    left
+    left.bytes
 }
 
 // Every contact goes out of range.

@@ -3,7 +3,7 @@
 use Prim.Native.Nat.{ℕ}
 use mathlib.Core.Bool.{false}
 use mathlib.Core.List.{List}
-use Rattle.formats.proofs.Ends.{EndOf}
+use Rattle.formats.proofs.Ends.{TailOf}
 use Rattle.fields.specs.Integers.{taken}
 use Rattle.touch.specs.Touch.{contact}
 use Rattle.touch.proofs.Ends.{contact-ends}
@@ -11,5 +11,5 @@ use Rattle.moves.proofs.Ends.{behind-ends}
 use Rattle.openings.specs.Openings.{Lists}
 
 -- THE LAW of what list_contacts answers
-pub list-contacts-ends : (n : ℕ) (l left before after : List ℕ) → Lists n l left before after → EndOf l left
+pub list-contacts-ends : (n : ℕ) (l left before after : List ℕ) → Lists n l left before after → TailOf l left
 list-contacts-ends n l left before after h = rw h.passed (behind-ends (contact taken) (contact-ends false) n l)

@@ -1,9 +1,12 @@
 // Who is in the set: those active at a cancel, and the ids of frames that are ignored or cancelled.
 ghost use Rattle.std.specs.Prelude.{◌≡◌, not, []};
+ghost use Rattle.formats.specs.Answer.{end_of};
 ghost use Rattle.machine.specs.Table.{active, one};
 ghost use Rattle.machine.specs.Held.{active_ids, leaving};
 ghost use Rattle.contacts.specs.Ruling.{table_from};
 ghost use Rattle.openings.specs.Openings.{Lists};
+
+use slices::Left;
 
 // The mark of a contact in this state.
 fn mark_of(state: u8) -> u8
@@ -37,16 +40,17 @@ fn mark_for(flags: u8) -> u8
 // The n contacts at the front of rest, of a frame that is ignored or cancelled: each id joins the set, or leaves it by its flags. Answers what is
 // behind them, and all of rest where they cannot all be read.
 pub fn list_contacts<'a>(rest: &'a [u8], n: usize, held: &mut [u8; 256]) -> &'a [u8]
-    ensures { Lists n rest.now result.now held.old held.new }
+    ensures value { Lists n rest.now result.now held.old held.new }
+    ensures tail { end_of result ≡ end_of rest.entry }
 {
-    let mut left = rest;
+    let mut left = Left { bytes: rest };
     for _ in 0..n {
-        let Ok((contact, behind)) = touch::read_contact(left, false) else {
+        let Ok((contact, behind)) = touch::read_contact(left.bytes, false) else {
             return rest;
         };
         let own = contact.id as usize;
         held[own] = mark_for(contact.flags);
-        left = behind;
+        left = Left { bytes: behind };
     }
-    left
+    left.bytes
 }

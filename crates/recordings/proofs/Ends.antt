@@ -12,7 +12,7 @@ use Rattle.paper.specs.declared.Refusal.{Refusal}
 use Rattle.formats.specs.Format.{got, bad}
 use Rattle.formats.specs.Answer.{read_of}
 use Rattle.formats.proofs.Laws.{never}
-use Rattle.formats.proofs.Ends.{EndOf, Ends, AnswerEnds, drop-ends, answer-ends}
+use Rattle.formats.proofs.Ends.{TailOf, Ends, AnswerEnds, drop-ends, answer-ends}
 use Rattle.house.specs.Fields.{record_bytes}
 use Rattle.house.specs.Layout.{contact_of, touched}
 use Rattle.house.specs.declared.Contact.{Contact}
@@ -21,7 +21,7 @@ use Rattle.recordings.specs.Records.{stands, contact_record}
 pub contact-record-ends : Ends contact_record
 contact-record-ends = record { ends = λ l a t e. go l a t (stands touched l) e }
   where
-    go : (l : List ℕ) (a : Contact) (t : List ℕ) (b : Bool) → cond b (got (contact_of (take record_bytes l)) (drop record_bytes l)) (bad bad_record) ≡ got a t → EndOf l t
+    go : (l : List ℕ) (a : Contact) (t : List ℕ) (b : Bool) → cond b (got (contact_of (take record_bytes l)) (drop record_bytes l)) (bad bad_record) ≡ got a t → TailOf l t
     go l a t true e = let z : drop record_bytes l ≡ t = cc in rw (← z) (drop-ends record_bytes l)
     go l a t false e = never bad_record a t e
 

@@ -1,6 +1,6 @@
 // A frame's contact, read from its record.
 ghost use Rattle.std.specs.Prelude.{◌≡◌};
-ghost use Rattle.formats.specs.Answer.{read_of};
+ghost use Rattle.formats.specs.Answer.{read_of, tail_end, end_of};
 ghost use Rattle.recordings.specs.Records.{contact_record};
 
 use crate::judge::is_of_kind;
@@ -9,7 +9,8 @@ use paper::Refusal;
 
 // The contact of the record at the front, and what is behind it.
 pub fn read_contact(records: &[u8]) -> Result<(Contact, &[u8]), Refusal>
-    ensures { read_of result ≡ contact_record.read records.now }
+    ensures value { read_of result ≡ contact_record.read records.now }
+    ensures tail { tail_end records.entry result ≡ end_of records.entry }
 {
     let found = unpacking::read_record(records);
     if !is_of_kind(records, found, house::TOUCHED) {

@@ -37,6 +37,12 @@ impl Written {
     }
 }
 
+// What is left of a slice that is read from the front, as a loop moves it on.
+#[derive(Clone, Copy)]
+pub struct Left<'a> {
+    pub bytes: &'a [u8],
+}
+
 // Lays all of source over the front of out, where there is room.
 pub fn lay(out: &mut [u8], source: &[u8]) -> Written
     ensures { Writes (bytes source.now) result out.old out.new }

@@ -6,12 +6,11 @@ use mathlib.Core.List.{List}
 use Rattle.std.specs.Prelude.{Result}
 use Rattle.std.specs.Borrow.{Bor}
 use Rattle.paper.specs.declared.Refusal.{Refusal}
-use Rattle.formats.specs.Answer.{read_of}
-use Rattle.formats.proofs.Unique.{Alike, read-alike}
+use Rattle.formats.proofs.Unique.{Answers, read-once}
 use Rattle.fields.specs.Integers.{Integers}
 use Rattle.house.specs.declared.Contact.{Contact}
 use Rattle.touch.specs.Touch.{contact}
 
 -- whatever integers are taken
-pub read-contact-unique : (i : Integers) (l : List ℕ) (a b : Result (Contact × Bor (List ℕ)) Refusal) → read_of a ≡ (contact i).read l → read_of b ≡ (contact i).read l → Alike a b
-read-contact-unique i l = read-alike ((contact i).read l)
+pub read-contact-unique : (i : Integers) (l : Bor (List ℕ)) (a b : Result (Contact × Bor (List ℕ)) Refusal) → Answers ((contact i).read l.now) l a → Answers ((contact i).read l.now) l b → a ≡ b
+read-contact-unique i l = read-once ((contact i).read l.now) l

@@ -1,7 +1,7 @@
 // A contact, field by field.
 ghost use Rattle.std.specs.Prelude.{◌≡◌};
 ghost use Rattle.formats.specs.Format.{byte};
-ghost use Rattle.formats.specs.Answer.{read_of};
+ghost use Rattle.formats.specs.Answer.{read_of, tail_end, end_of};
 ghost use Rattle.fields.specs.Integers.{taken_by};
 ghost use Rattle.touch.specs.Touch.{optional, contact};
 
@@ -13,7 +13,8 @@ use well_formed::{ORIENTATION_MOST, PRESSURE_MOST, has_field};
 // The id, one byte.
 #[tactic(auto, unfolding(formats::specs::Format::read_byte))]
 fn read_id(rest: &[u8]) -> Result<(u8, &[u8]), Refusal>
-    ensures { read_of result ≡ byte.read rest.now }
+    ensures value { read_of result ≡ byte.read rest.now }
+    ensures tail { tail_end rest.entry result ≡ end_of rest.entry }
 {
     if rest.is_empty() {
         return Err(Refusal::Truncated);
@@ -24,7 +25,8 @@ fn read_id(rest: &[u8]) -> Result<(u8, &[u8]), Refusal>
 // The fields that fieldsPresent says are there.
 #[tactic(auto, unfolding(crate::specs::Touch::optional))]
 fn read_optional(rest: &[u8], present: u16, strictly: bool) -> Result<(Optional, &[u8]), Refusal>
-    ensures { read_of result ≡ (optional (taken_by strictly) present).read rest.now }
+    ensures value { read_of result ≡ (optional (taken_by strictly) present).read rest.now }
+    ensures tail { tail_end rest.entry result ≡ end_of rest.entry }
 {
     let (sides, rest) = parts::read_sides(rest, has_field(present, 1), strictly)?;
     let turned = has_field(present, 2);
@@ -42,7 +44,8 @@ fn read_optional(rest: &[u8], present: u16, strictly: bool) -> Result<(Optional,
 // The contact at the front, and what is behind it.
 #[tactic(auto, using(states::proofs::Rule::listed_small), unfolding(crate::specs::Touch::contact))]
 pub fn read_contact(rest: &[u8], strictly: bool) -> Result<(Contact, &[u8]), Refusal>
-    ensures { read_of result ≡ (contact (taken_by strictly)).read rest.now }
+    ensures value { read_of result ≡ (contact (taken_by strictly)).read rest.now }
+    ensures tail { tail_end rest.entry result ≡ end_of rest.entry }
 {
     let (id, rest) = read_id(rest)?;
     let (present, rest) = parts::read_present(rest, strictly)?;

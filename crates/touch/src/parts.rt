@@ -2,7 +2,7 @@
 ghost use Rattle.std.specs.Prelude.{◌≡◌, leb};
 ghost use Rattle.paper.specs.Refusals.{bad_range};
 ghost use Rattle.formats.specs.Format.{such, when};
-ghost use Rattle.formats.specs.Answer.{read_of};
+ghost use Rattle.formats.specs.Answer.{read_of, tail_end, end_of};
 ghost use Rattle.fields.specs.Integers.{taken_by};
 ghost use Rattle.house.specs.Fits.{no_sides};
 ghost use Rattle.touch.specs.Touch.{present, point, flags, sides};
@@ -12,7 +12,8 @@ use paper::Refusal;
 
 // fieldsPresent: bits 1, 2 and 4 only.
 pub(crate) fn read_present(rest: &[u8], strictly: bool) -> Result<(u16, &[u8]), Refusal>
-    ensures { read_of result ≡ (present (taken_by strictly)).read rest.now }
+    ensures value { read_of result ≡ (present (taken_by strictly)).read rest.now }
+    ensures tail { tail_end rest.entry result ≡ end_of rest.entry }
 {
     let (present, rest) = fields::read::<u16>(rest, strictly)?;
     if present < 8 {
@@ -23,7 +24,8 @@ pub(crate) fn read_present(rest: &[u8], strictly: bool) -> Result<(u16, &[u8]), 
 
 // contactFlags: one of the state table's values.
 pub(crate) fn read_flags(rest: &[u8], strictly: bool) -> Result<(u32, &[u8]), Refusal>
-    ensures { read_of result ≡ (flags (taken_by strictly)).read rest.now }
+    ensures value { read_of result ≡ (flags (taken_by strictly)).read rest.now }
+    ensures tail { tail_end rest.entry result ≡ end_of rest.entry }
 {
     let (flags, rest) = fields::read::<u32>(rest, strictly)?;
     if states::is_listed(flags) {
@@ -39,7 +41,8 @@ pub(crate) fn read_up_to(
     most: u16,
     strictly: bool,
 ) -> Result<(u32, &[u8]), Refusal>
-    ensures { read_of result ≡ (when there (such (taken_by strictly).u4 (λ v. leb v most) bad_range) 0).read rest.now }
+    ensures value { read_of result ≡ (when there (such (taken_by strictly).u4 (λ v. leb v most) bad_range) 0).read rest.now }
+    ensures tail { tail_end rest.entry result ≡ end_of rest.entry }
 {
     if !there {
         return Ok((0, rest));
@@ -54,7 +57,8 @@ pub(crate) fn read_up_to(
 // x and y.
 #[tactic(auto, unfolding(crate::specs::Touch::point))]
 pub(crate) fn read_point(rest: &[u8], strictly: bool) -> Result<(Point, &[u8]), Refusal>
-    ensures { read_of result ≡ (point (taken_by strictly)).read rest.now }
+    ensures value { read_of result ≡ (point (taken_by strictly)).read rest.now }
+    ensures tail { tail_end rest.entry result ≡ end_of rest.entry }
 {
     let (x, rest) = fields::read::<i32>(rest, strictly)?;
     let (y, rest) = fields::read::<i32>(rest, strictly)?;
@@ -64,7 +68,8 @@ pub(crate) fn read_point(rest: &[u8], strictly: bool) -> Result<(Point, &[u8]), 
 // left, top, right and bottom.
 #[tactic(auto, unfolding(crate::specs::Touch::sides))]
 fn read_four(rest: &[u8], strictly: bool) -> Result<(Sides, &[u8]), Refusal>
-    ensures { read_of result ≡ (sides (taken_by strictly)).read rest.now }
+    ensures value { read_of result ≡ (sides (taken_by strictly)).read rest.now }
+    ensures tail { tail_end rest.entry result ≡ end_of rest.entry }
 {
     let (left, rest) = fields::read::<i16>(rest, strictly)?;
     let (top, rest) = fields::read::<i16>(rest, strictly)?;
@@ -85,7 +90,8 @@ pub(crate) fn read_sides(
     there: bool,
     strictly: bool,
 ) -> Result<(Sides, &[u8]), Refusal>
-    ensures { read_of result ≡ (when there (sides (taken_by strictly)) no_sides).read rest.now }
+    ensures value { read_of result ≡ (when there (sides (taken_by strictly)) no_sides).read rest.now }
+    ensures tail { tail_end rest.entry result ≡ end_of rest.entry }
 {
     if there {
         return read_four(rest, strictly);

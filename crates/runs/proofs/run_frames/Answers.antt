@@ -20,7 +20,7 @@ loop-preserved c =
       c.pass-pos.ensures.inside,
       omega (arith, b.frames, p.invariant.1),
       omega (arith, b.small, p.invariant.2),
-      rw fewer (frames-next a.untimed a.wet a.most _ _ _ _ _ _ _ _ some _ _ c.find_head.ensures.0 c.find_head.ensures.1 _ c.timed-head.ensures _ _ b _ g c.pass-pos.ensures ∙ p.invariant.3),
+      rw fewer (frames-next a.untimed a.wet a.most _ _ _ _ _ _ _ _ some _ _ c.find_head.ensures.value.0 c.find_head.ensures.value.1 _ c.timed-head.ensures _ _ b _ g c.pass-pos.ensures ∙ p.invariant.3),
     )
 
 pub returns : goal.returns

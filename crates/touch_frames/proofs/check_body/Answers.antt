@@ -24,26 +24,26 @@ behind : (strictly judged : Bool) (l : List ℕ) (h : BodyHead) (t : List ℕ) (
     → summary (body (taken_by strictly) judged l) ≡ and_then x (λ a u. ended trailing h u)
 behind strictly judged l h t x e f = body_end (taken_by strictly) touch_limits (contact (taken_by strictly)) judged l h t (sym e) ∙ ap (λ y. and_then y (λ a u. ended trailing h u)) (sym f)
 
-pub returns-in_err-head : goal.returns-in_err-head
+pub returns-in_err-head-clause-value : goal.returns-in_err-head-clause-value
 unfolding body_format
-returns-in_err-head c =
+returns-in_err-head-clause-value c =
     let e : checked_of c.from_residual.result ≡ bad (number c.in_err-head.field-0.0) = search rules in
-    record { same = e ∙ rw (sym c.in_err-head.ensures); begins = search rules }
+    record { same = e ∙ rw (sym c.in_err-head.ensures.value); begins = search rules }
 
-pub returns-in_err-left : goal.returns-in_err-left
-returns-in_err-left c =
+pub returns-in_err-left-clause-value : goal.returns-in_err-left-clause-value
+returns-in_err-left-clause-value c =
     let a = c.args in
     let e : checked_of c.from_residual-in_err-left.result ≡ bad (number c.in_err-left.field-0.0) = search rules in
-    record { same = e ∙ sym (behind a.strictly a.judged a.body.now _ _ _ c.in_ok-head.ensures c.in_err-left.ensures); begins = search rules }
+    record { same = e ∙ sym (behind a.strictly a.judged a.body.now _ _ _ c.in_ok-head.ensures.value c.in_err-left.ensures.value); begins = search rules }
 
-pub returns-then-is_empty : goal.returns-then-is_empty
-returns-then-is_empty c =
+pub returns-then-is_empty-clause-value : goal.returns-then-is_empty-clause-value
+returns-then-is_empty-clause-value c =
     let a = c.args in
     let n : length c.in_ok-left.left.now ≡ 0 = search rules in
-    record { same = sym (behind a.strictly a.judged a.body.now _ _ _ c.in_ok-head.ensures c.in_ok-left.ensures ∙ ended_none trailing c.in_ok-head.head _ n); begins = sym c.in_ok-head.ensures }
+    record { same = sym (behind a.strictly a.judged a.body.now _ _ _ c.in_ok-head.ensures.value c.in_ok-left.ensures.value ∙ ended_none trailing c.in_ok-head.head _ n); begins = sym c.in_ok-head.ensures.value }
 
-pub returns : goal.returns
-returns c =
+pub returns-clause-value : goal.returns-clause-value
+returns-clause-value c =
     let a = c.args in
     let n : 0 < length c.in_ok-left.left.now = search rules in
-    record { same = sym (behind a.strictly a.judged a.body.now _ _ _ c.in_ok-head.ensures c.in_ok-left.ensures ∙ ended_more trailing c.in_ok-head.head _ n); begins = tt }
+    record { same = sym (behind a.strictly a.judged a.body.now _ _ _ c.in_ok-head.ensures.value c.in_ok-left.ensures.value ∙ ended_more trailing c.in_ok-head.head _ n); begins = tt }

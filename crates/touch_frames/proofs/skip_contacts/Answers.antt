@@ -19,17 +19,17 @@ use Rattle.touch_frames.proofs.skip_contacts.Goals as goal
 abbrev by : Bool → Bool → List ℕ → Got Contact
 by strictly b = (contact (taken_by strictly)).read
 
-pub returns-in_err-behind : goal.returns-in_err-behind
-returns-in_err-behind c =
+pub returns-in_err-behind-clause-value : goal.returns-in_err-behind-clause-value
+returns-in_err-behind-clause-value c =
     let e : left_of c.from_residual.result ≡ bad (number c.in_err-behind.field-0.0) = search rules in
-    let b : by c.args.strictly false c.loop.left.now ≡ bad (number c.in_err-behind.field-0.0) = sym c.in_err-behind.ensures in
-    e ∙ (sym (ap skipped (series-bad (by c.args.strictly) false (c.args.n - c.loop.counter) _ _ (omega (arith, c.loop-test.true)) b)) ∙ c.loop.invariant)
+    let b : by c.args.strictly false c.loop.left.bytes.now ≡ bad (number c.in_err-behind.field-0.0) = sym c.in_err-behind.ensures.value in
+    e ∙ (sym (ap skipped (series-bad (by c.args.strictly) false (c.args.n - c.loop.counter) _ _ (omega (arith, c.loop-test.true)) b)) ∙ c.loop.invariant.1)
 
 pub loop-preserved : goal.loop-preserved
 loop-preserved c =
-    let b : by c.args.strictly false c.loop.left.now ≡ got c.in_ok-behind.field-0-0 c.in_ok-behind.behind.now = sym c.in_ok-behind.ensures in
+    let b : by c.args.strictly false c.loop.left.bytes.now ≡ got c.in_ok-behind.field-0-0 c.in_ok-behind.behind.now = sym c.in_ok-behind.ensures.value in
     let n : c.args.n - (c.loop.counter + 1) ≡ c.args.n - c.loop.counter - 1 = omega arith in
-    rw n (sym (series-got (by c.args.strictly) false (c.args.n - c.loop.counter) _ _ _ (omega (arith, c.loop-test.true)) b) ∙ c.loop.invariant)
+    (search rules, rw n (sym (series-got (by c.args.strictly) false (c.args.n - c.loop.counter) _ _ _ (omega (arith, c.loop-test.true)) b) ∙ c.loop.invariant.1))
 
-pub returns : goal.returns
-returns c = sym (ap skipped (series-end (by c.args.strictly) false (c.args.n - c.loop.counter) c.loop.left.now (omega (arith, c.loop-test.false)))) ∙ c.loop.invariant
+pub returns-clause-value : goal.returns-clause-value
+returns-clause-value c = sym (ap skipped (series-end (by c.args.strictly) false (c.args.n - c.loop.counter) c.loop.left.bytes.now (omega (arith, c.loop-test.false)))) ∙ c.loop.invariant.1

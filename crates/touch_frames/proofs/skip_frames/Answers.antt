@@ -22,23 +22,23 @@ by strictly b = (skip (frame (taken_by strictly) b)).read
 whole : (strictly judged : Bool) (n : ℕ) (l : List ℕ) (x : Got (Unit {0})) → x ≡ skipped (read_series (by strictly) judged n l) → x ≡ skipped (read_series (λ b. (frame (taken_by strictly) b).read) judged n l)
 whole strictly judged n l x h = h ∙ series-skip (λ b. (frame (taken_by strictly) b).read) judged n l
 
-pub returns-in_err-left : goal.returns-in_err-left
-returns-in_err-left c =
+pub returns-in_err-behind-clause-value : goal.returns-in_err-behind-clause-value
+returns-in_err-behind-clause-value c =
     let a = c.args in
-    let e : left_of c.from_residual.result ≡ bad (number c.in_err-left.field-0.0) = search rules in
-    let b : by a.strictly (nat_eq c.loop-i.i 0 && a.judged) c.loop-i.left.now ≡ bad (number c.in_err-left.field-0.0) = sym c.in_err-left.ensures in
-    whole a.strictly a.judged a.n a.rest.now _ (e ∙ (sym (ap skipped (series-bad (by a.strictly) _ (a.n - c.loop-i.i) _ _ (omega (arith, c.loop-i-test.true)) b)) ∙ c.loop-i.invariant))
+    let e : left_of c.from_residual.result ≡ bad (number c.in_err-behind.field-0.0) = search rules in
+    let b : by a.strictly (nat_eq c.loop-i.i 0 && a.judged) c.loop-i.left.bytes.now ≡ bad (number c.in_err-behind.field-0.0) = sym c.in_err-behind.ensures.value in
+    whole a.strictly a.judged a.n a.rest.now _ (e ∙ (sym (ap skipped (series-bad (by a.strictly) _ (a.n - c.loop-i.i) _ _ (omega (arith, c.loop-i-test.true)) b)) ∙ c.loop-i.invariant.1))
 
 pub loop-i-preserved : goal.loop-i-preserved
 loop-i-preserved c =
     let a = c.args in
-    let b : by a.strictly (nat_eq c.loop-i.i 0 && a.judged) c.loop-i.left.now ≡ got tt c.in_ok-left.left.now = sym c.in_ok-left.ensures in
+    let b : by a.strictly (nat_eq c.loop-i.i 0 && a.judged) c.loop-i.left.bytes.now ≡ got tt c.in_ok-behind.behind.now = sym c.in_ok-behind.ensures.value in
     let n : a.n - (c.loop-i.i + 1) ≡ a.n - c.loop-i.i - 1 = omega arith in
     let f : nat_eq (c.loop-i.i + 1) 0 ≡ false = search rules in
-    rw (n, f) (sym (series-got (by a.strictly) _ (a.n - c.loop-i.i) _ _ _ (omega (arith, c.loop-i-test.true)) b) ∙ c.loop-i.invariant)
+    (search rules, rw (n, f) (sym (series-got (by a.strictly) _ (a.n - c.loop-i.i) _ _ _ (omega (arith, c.loop-i-test.true)) b) ∙ c.loop-i.invariant.1))
 
-pub returns : goal.returns
-returns c =
+pub returns-clause-value : goal.returns-clause-value
+returns-clause-value c =
     let a = c.args in
     whole a.strictly a.judged a.n a.rest.now _
-    (sym (ap skipped (series-end (by a.strictly) (nat_eq c.loop-i.i 0 && a.judged) (a.n - c.loop-i.i) c.loop-i.left.now (omega (arith, c.loop-i-test.false)))) ∙ c.loop-i.invariant)
+    (sym (ap skipped (series-end (by a.strictly) (nat_eq c.loop-i.i 0 && a.judged) (a.n - c.loop-i.i) c.loop-i.left.bytes.now (omega (arith, c.loop-i-test.false)))) ∙ c.loop-i.invariant.1)

@@ -25,7 +25,7 @@ returns-in_err-contact c =
     let a = c.args in
     let p = c.loop in
     let left-of : List Contact → Option Survey = surveyed_from a.states.now a.xs.now a.ys.now p.seen p.came p.gone in
-    c.from_residual.ensures ∙ sym (read-stop (source a.recorded) None (λ cs u. left-of cs) (a.n - p.counter) p.left.now _ (omega arith) c.read_contact.ensures (sym c.ok.ensures.value ∙ c.in_err-contact.was)) ∙ p.invariant.3
+    c.from_residual.ensures ∙ sym (read-stop (source a.recorded) None (λ cs u. left-of cs) (a.n - p.counter) p.left.now _ (omega arith) c.read_contact.ensures.value (sym c.ok.ensures.value ∙ c.in_err-contact.was)) ∙ p.invariant.3
 
 pub returns-then-seen-i : goal.returns-then-seen-i
 returns-then-seen-i c =
@@ -33,7 +33,7 @@ returns-then-seen-i c =
     let p = c.loop in
     let d = c.in_ok-contact.contact in
     let left-of : List Contact → Option Survey = surveyed_from a.states.now a.xs.now a.ys.now p.seen p.came p.gone in
-    let this = kept _ _ _ _ c.read_contact.ensures (sym c.ok.ensures.value ∙ c.in_ok-contact.was) in
+    let this = kept _ _ _ _ c.read_contact.ensures.value (sym c.ok.ensures.value ∙ c.in_ok-contact.was) in
     let off : (cs : List Contact) → left-of (d ∷ cs) ≡ None =
     elim c.then-seen-i.branch [
       | then-seen-i-via-then-seen-i w ↦ survey-twice a.states.now a.xs.now a.ys.now p.seen p.came p.gone d w.if-seen-i.true
@@ -47,7 +47,7 @@ loop-preserved c =
     let p = c.loop in
     let d = c.in_ok-contact.contact in
     let left-of : List Contact → Option Survey = surveyed_from a.states.now a.xs.now a.ys.now p.seen p.came p.gone in
-    let this = kept _ _ _ _ c.read_contact.ensures (sym c.ok.ensures.value ∙ c.in_ok-contact.was) in
+    let this = kept _ _ _ _ c.read_contact.ensures.value (sym c.ok.ensures.value ∙ c.in_ok-contact.was) in
     let id-in : d.id < 256 = omega arith in
     let up = c.one_if_active-came.ensures.0 ∙ ap (λ s. one (active s)) c.next_state.ensures in
     let on = survey-on a.states.now a.xs.now a.ys.now p.seen p.came p.gone d _ _ (omega (arith, id-in, p.invariant.0)) c.if-seen-i.false (sym c.is_allowed.ensures ∙ c.if-not-is_allowed.false) up c.one_if_active-gone.ensures.0 in (

@@ -24,4 +24,4 @@ pub returns : goal.returns
 returns c f rest e k =
     let a = c.args in
     let count = c.contacts_after-count.ensures ∙ ap contacts_after c.read_record.ensures in
-    step-goes a.most a.frame.now f rest e _ _ (tail a.frame.now 21) _ count (λ i. (c.type_inv.frame i).fits) _ k _ c.in_ok-after.ensures c.apply-behind.result _ c.apply-behind.ensures
+    step-goes a.most a.frame.now f rest e _ _ (tail a.frame.now 21) _ count (λ i. (c.type_inv.frame i).fits) _ k _ c.in_ok-after.ensures c.apply-behind.result _ c.apply-behind.ensures.value

@@ -3,6 +3,7 @@
 use mathlib.Core.Path.{◌≡◌, sym, ap, ◌∙◌}
 use mathlib.Core.Bool.{true}
 use lib.ListN.{take, drop}
+use Rattle.std.proofs.Common.{rules}
 use Rattle.formats.specs.Format.{got}
 use Rattle.formats.proofs.Steps.{tail}
 use Rattle.house.specs.Layout.{contact_of}
@@ -16,9 +17,9 @@ use Rattle.recordings.proofs.contact.read_contact.Goals.{After-is_of_kind}
 judged : (c : After-is_of_kind) → c.is_of_kind.result ≡ stands 1 c.args.records.now
 judged c = c.is_of_kind.ensures ∙ stands_read 1 _ _ c.read_record-found.ensures
 
-pub returns-then-not-is_of_kind : goal.returns-then-not-is_of_kind
-returns-then-not-is_of_kind c =
-    let j = judged (goal.at.returns-then-not-is_of_kind c).After-is_of_kind in
+pub returns-then-not-is_of_kind-clause-value : goal.returns-then-not-is_of_kind-clause-value
+returns-then-not-is_of_kind-clause-value c =
+    let j = judged (goal.at.returns-then-not-is_of_kind-clause-value c).After-is_of_kind in
     sym (contact-fails _ (sym j ∙ c.if-not-is_of_kind.true))
 
 pub slice_bounds-result-count : goal.slice_bounds-result-count
@@ -31,12 +32,18 @@ slice_bounds-result-start c =
     let j = judged (goal.at.slice_bounds-result-start c).After-is_of_kind in
     (stood 1 _ (sym j ∙ c.if-not-is_of_kind.false)).long
 
-pub returns-in-Contact : goal.returns-in-Contact
-returns-in-Contact c =
+pub returns-in-Contact-clause-value : goal.returns-in-Contact-clause-value
+returns-in-Contact-clause-value c =
     let l = c.args.records.now in
-    let j = judged (goal.at.returns-in-Contact c).After-is_of_kind in
+    let j = judged (goal.at.returns-in-Contact-clause-value c).After-is_of_kind in
     let touched : stands 1 l ≡ true = sym j ∙ c.if-not-is_of_kind.false in
     let is : c.read_record-found.result ≡ Record.Contact 1 (contact_of (take 21 l)) = c.read_record-found.ensures ∙ contact-is l (stood 1 l touched) in
     let same-record = sym c.in-Contact.is ∙ is in
     let same-contact : c.in-Contact.contact ≡ contact_of (take 21 l) = cc in
     rw (tail l 21) (ap (λ x. got x (drop 21 l)) same-contact ∙ sym (contact-stands l touched))
+
+pub returns-in-Contact-clause-tail : goal.returns-in-Contact-clause-tail
+returns-in-Contact-clause-tail c =
+    let j = judged (goal.at.returns-in-Contact-clause-tail c).After-is_of_kind in
+    let inside = (stood 1 _ (sym j ∙ c.if-not-is_of_kind.false)).long in
+    search rules

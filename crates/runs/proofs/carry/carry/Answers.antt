@@ -32,7 +32,7 @@ pub returns : goal.returns
 returns c =
     let a = c.args in
     record {
-      table = c.apply.ensures;
+      table = c.apply.ensures.value;
       output = elim c.else-wet.branch [
         | else-wet-via-then-wet+else-count-out w ↦ lays-nothing a.wet a.head a.rest.now a.out.now (inl (w.if-wet.true, w.if-count-out.false))
         | else-wet-via-else-wet w ↦ lays-nothing a.wet a.head a.rest.now a.out.now (inr w.if-wet.false)

@@ -20,10 +20,10 @@ returns-in_default c =
     let p = c.loop in
     record {
       table = record {
-        table = sym (read-bad (moved touch_view next) (contact taken) _ (a.n - p.counter) _ _ (omega arith) (sym c.in_default.ensures)) ∙ p.invariant.2;
-        passed = sym (list-bad (contact taken) a.rest.now (λ cs t. t) (a.n - p.counter) _ _ (omega arith) (sym c.in_default.ensures)) ∙ p.invariant.1;
+        table = sym (read-bad (moved touch_view next) (contact taken) _ (a.n - p.counter) _ _ (omega arith) (sym c.in_default.ensures.value)) ∙ p.invariant.2;
+        passed = sym (list-bad (contact taken) a.rest.now (λ cs t. t) (a.n - p.counter) _ _ (omega arith) (sym c.in_default.ensures.value)) ∙ p.invariant.1;
       };
-      output = (laying-bad _ _ _ _ _ _ _ p.invariant.0 _ (omega arith) (sym c.in_default.ensures)).output;
+      output = (laying-bad _ _ _ _ _ _ _ p.invariant.0 _ (omega arith) (sym c.in_default.ensures.value)).output;
     }
 
 pub loop-preserved : goal.loop-preserved
@@ -31,9 +31,9 @@ loop-preserved c =
     let a = c.args in
     let p = c.loop in
     let less : a.n - p.counter - 1 ≡ a.n - (p.counter + 1) = omega arith in (
-      laying-next _ _ _ _ _ _ _ p.invariant.0 _ _ _ _ _ (omega arith) (sym c.in-Ok.ensures) c.write_contact.ensures,
-      sym (list-on (contact taken) a.rest.now (λ cs t. t) (λ cs t. t) (a.n - p.counter) _ _ _ _ (omega arith) (sym c.in-Ok.ensures) (λ cs t. refl)) ∙ p.invariant.1,
-      rw less at (read-on (moved touch_view next) (contact taken) _ _ (a.n - p.counter) _ _ _ (omega arith) (sym c.in-Ok.ensures) c.move_contact.ensures) ∙ p.invariant.2,
+      laying-next _ _ _ _ _ _ _ p.invariant.0 _ _ _ _ _ (omega arith) (sym c.in-Ok.ensures.value) c.write_contact.ensures,
+      sym (list-on (contact taken) a.rest.now (λ cs t. t) (λ cs t. t) (a.n - p.counter) _ _ _ _ (omega arith) (sym c.in-Ok.ensures.value) (λ cs t. refl)) ∙ p.invariant.1,
+      rw less at (read-on (moved touch_view next) (contact taken) _ _ (a.n - p.counter) _ _ _ (omega arith) (sym c.in-Ok.ensures.value) c.move_contact.ensures) ∙ p.invariant.2,
     )
 
 pub returns : goal.returns

@@ -11,6 +11,6 @@ returns c =
       answer = refl;
       small = search rules;
       table = c.rest_all.ensures;
-      held = lists-active _ _ _ _ _ _ c.mark_active.ensures c.list_contacts-left.ensures;
+      held = lists-active _ _ _ _ _ _ c.mark_active.ensures c.list_contacts-left.ensures.value;
       output = c.write_cancelled.ensures;
     }

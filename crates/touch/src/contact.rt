@@ -42,7 +42,7 @@ fn read_optional(rest: &[u8], present: u16, strictly: bool) -> Result<(Optional,
 }
 
 // The contact at the front, and what is behind it.
-#[tactic(auto, using(states::proofs::Rule::listed_small), unfolding(crate::specs::Touch::contact))]
+#[tactic(auto, using(states::proofs::Rule::listed_small), unfolding(crate::specs::Touch::contact, crate::specs::Touch::optional))]
 pub fn read_contact(rest: &[u8], strictly: bool) -> Result<(Contact, &[u8]), Refusal>
     ensures value { read_of result ≡ (contact (taken_by strictly)).read rest.now }
     ensures tail { tail_end rest.entry result ≡ end_of rest.entry }
@@ -51,15 +51,25 @@ pub fn read_contact(rest: &[u8], strictly: bool) -> Result<(Contact, &[u8]), Ref
     let (present, rest) = parts::read_present(rest, strictly)?;
     let (place, rest) = parts::read_point(rest, strictly)?;
     let (flags, rest) = parts::read_flags(rest, strictly)?;
-    let (more, rest) = read_optional(rest, present, strictly)?;
-    let found = Contact {
+    let bare = Contact {
         flags: flags as u8,
         present: present as u8,
         id,
         place,
+        sides: parts::NO_SIDES,
+        orientation: 0,
+        pressure: 0,
+    };
+    // Most contacts end here: they are spared the call, and a copy of what it answers.
+    if present == 0 {
+        return Ok((bare, rest));
+    }
+    let (more, rest) = read_optional(rest, present, strictly)?;
+    let found = Contact {
         sides: more.sides,
         orientation: more.orientation,
         pressure: more.pressure,
+        ..bare
     };
     Ok((found, rest))
 }

@@ -10,6 +10,14 @@ ghost use Rattle.touch.specs.Touch.{present, point, flags, sides};
 use house::{Point, Sides};
 use paper::Refusal;
 
+// The sides of a contact that has none.
+pub(crate) const NO_SIDES: Sides = Sides {
+    left: 0,
+    top: 0,
+    right: 0,
+    bottom: 0,
+};
+
 // fieldsPresent: bits 1, 2 and 4 only.
 pub(crate) fn read_present(rest: &[u8], strictly: bool) -> Result<(u16, &[u8]), Refusal>
     ensures value { read_of result ≡ (present (taken_by strictly)).read rest.now }
@@ -96,11 +104,5 @@ pub(crate) fn read_sides(
     if there {
         return read_four(rest, strictly);
     }
-    let none = Sides {
-        left: 0,
-        top: 0,
-        right: 0,
-        bottom: 0,
-    };
-    Ok((none, rest))
+    Ok((NO_SIDES, rest))
 }
